@@ -1,0 +1,8 @@
+mod Days
+mod Years
+mod ByWeek
+mod Sound
+mod Months
+mod Packs
+mod Openings
+mod Examples
