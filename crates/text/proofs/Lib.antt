@@ -1,0 +1,4 @@
+pub mod Fields
+pub mod Keywords
+pub mod Numerals
+pub mod Runs
