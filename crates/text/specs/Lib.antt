@@ -1,3 +1,4 @@
 pub mod Form
 pub mod Lines
 pub mod Tokens
+pub mod Judging
