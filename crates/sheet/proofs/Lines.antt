@@ -26,8 +26,8 @@ use Rattle.text.specs.Written.{price-text, line-text}
 use Rattle.sheet.specs.Saved.{mark-text, block-text, Row-fits, Block-fits}
 use Rattle.text.proofs.Alls.{all-weaker}
 use Rattle.sheet.proofs.Each.{every-from}
-use Rattle.text.proofs.Runs.{within}
-use Rattle.text.proofs.Fields.{one-reads, keyed-reads, named-reads, price-back}
+use Rattle.text.proofs.RunsBack.{within}
+use Rattle.text.proofs.FieldsBack.{one-reads, keyed-reads, named-reads, price-back}
 use Rattle.text.proofs.Parts.{numbers-back, prices-back}
 use Rattle.sheet.proofs.Periods.{prices-of}
 

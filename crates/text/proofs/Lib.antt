@@ -1,6 +1,6 @@
 pub mod Alls
-pub mod Runs
-pub mod Numbers
-pub mod Fields
+pub mod RunsBack
+pub mod NumbersBack
+pub mod FieldsBack
 pub mod Parts
 pub mod FormKeeps

@@ -7,8 +7,8 @@ use Rattle.text.specs.Form.{whole, price, keyed}
 use Rattle.text.specs.Written.{price-text, line-text}
 use Rattle.text.specs.Laws.{Number-reads-back, Price-reads-back, Name-reads-back, Numbers-read-back, Prices-read-back, Keyed-reads-back, Named-reads-back}
 use Rattle.text.proofs.Alls.{all-weaker}
-use Rattle.text.proofs.Numbers.{number-reads, price-reads, name-reads}
-use Rattle.text.proofs.Fields.{Reads-back, line-of-reads, whole-back, price-back, keyed-reads, named-reads}
+use Rattle.text.proofs.NumbersBack.{number-reads, price-reads, name-reads}
+use Rattle.text.proofs.FieldsBack.{Reads-back, line-of-reads, whole-back, price-back, keyed-reads, named-reads}
 
 pub number-back : Number-reads-back
 number-back = number-reads

@@ -11,7 +11,7 @@ use Rattle.std.specs.shelf.Lists.{All}
 use Rattle.std.specs.declared.option.Option.the-variants.{Some}
 use Rattle.text.specs.Form.{Reads, after, letter-or-digit, whole, price, name, ended, field, fields, line-of, keyed, named}
 use Rattle.text.specs.Written.{price-text, line-text}
-use Rattle.text.proofs.Numbers.{number-reads, price-reads, name-reads}
+use Rattle.text.proofs.NumbersBack.{number-reads, price-reads, name-reads}
 
 pub after-itself : (bs rest : List ℕ) → after bs (bs ++ rest) ≡ Some rest
 after-itself [] rest = refl

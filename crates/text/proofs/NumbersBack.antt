@@ -17,7 +17,7 @@ use Rattle.std.specs.shelf.Lists.{leading, folded, All}
 use Rattle.std.specs.declared.option.Option.the-variants.{Some}
 use Rattle.text.specs.Form.{digit, letter-or-digit, value, needless-zero, number-up-to, decimals, price, name}
 use Rattle.text.specs.Written.{price-text}
-use Rattle.text.proofs.Runs.{run-reads, within}
+use Rattle.text.proofs.RunsBack.{run-reads, within}
 
 abbrev pub Digits : List ℕ → Type 0
 Digits = All (λ b. digit b ≡ true)
