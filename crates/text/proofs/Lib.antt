@@ -1,4 +1,10 @@
+pub mod Alls
 pub mod Fields
+pub mod FieldsBack
+pub mod FormKeeps
 pub mod Keywords
+pub mod NumbersBack
 pub mod Numerals
+pub mod Parts
 pub mod Runs
+pub mod RunsBack

@@ -1,4 +1,6 @@
 pub mod Form
+pub mod Judging
+pub mod Laws
 pub mod Lines
 pub mod Tokens
-pub mod Judging
+pub mod Written

@@ -1,0 +1,7 @@
+mod Each
+mod Periods
+mod Lines
+mod Saves
+mod SheetKeeps
+mod Kept
+mod Examples

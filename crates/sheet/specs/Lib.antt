@@ -1,0 +1,5 @@
+pub mod Limits
+pub mod Offer
+pub mod Fault
+pub mod Sheet
+pub mod Saved
