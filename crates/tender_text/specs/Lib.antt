@@ -1,2 +1,3 @@
 pub mod Fault
 pub mod Opening
+pub mod Report

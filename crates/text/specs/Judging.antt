@@ -4,7 +4,6 @@ use Rattle.std.specs.declared.result.Result.{Result}
 use Rattle.std.specs.declared.result.Result.the-variants.{Ok, Err}
 
 infixl 10 _>>=_ _>>_
-
 abbrev pub _>>=_ : {X Y F : Type 0} → Result X F → (X → Result Y F) → Result Y F
 Ok x >>= next = next x
 Err f >>= next = Err f

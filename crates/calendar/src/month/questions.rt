@@ -15,6 +15,13 @@ impl Calendar {
         self.count
     }
 
+    /// The day count of each period.
+    pub fn day_counts(&self) -> &[u32]
+        ensures { λ r. ⌜ now r ≡ day-counts (now (self .entry)) ⌝ }
+    {
+        &self.days[0..self.count]
+    }
+
     /// The days of a period, counted from 1; none outside the month.
     pub fn days(&self, period: usize) -> Option<u32>
         ensures { λ r. ⌜ r ≡ days-in (day-counts (now (self .entry))) period ⌝ }
@@ -33,7 +40,7 @@ impl Calendar {
         ensures value { λ r. ⌜ r ≡ sum (day-counts (now (self .entry))) ⌝ }
         ensures bound { λ r. ⌜ r ≤ 31 ⌝ }
     {
-        total(&self.days[0..self.count])
+        total(self.day_counts())
     }
 }
 
