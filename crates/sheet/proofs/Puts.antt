@@ -9,6 +9,9 @@ use Rattle.std.proofs.shelf.Lists.{length-set, take-more, take-more-set, drop-s
 use Rattle.std.proofs.shelf.Decimals.{length-decimal-le}
 use Rattle.std.specs.Written.{decimal, joined}
 use Rattle.text.specs.Written.{line-text}
+use Rattle.std.proofs.shelf.Tests.{le-leb}
+use Rattle.std.specs.declared.result.Result.the-variants.{Ok}
+use Rattle.sheet.specs.Saved.{save-answer, buffer-after}
 use Rattle.sheet.specs.Writing.{with-bytes, Put}
 
 pub with-both : (buffer : List ℕ) (at : ℕ) (xs ys : List ℕ) → with-bytes buffer at (xs ++ ys) ≡ with-bytes (with-bytes buffer at xs) (at + length xs) ys
@@ -116,3 +119,23 @@ pub data Puts : List (List ℕ) → ℕ → List ℕ → ℕ → List ℕ → �
 pub put-joined : {ts : List (List ℕ)} {m : ℕ} {before after : List ℕ} {at next : ℕ} → Puts ts m before at after next → Put (joined ts) m before at after next
 put-joined {before = before} {at = at} none = put-none before at
 put-joined (more p ps) = put-then p (put-joined ps)
+
+pub joined-parts : (n : ℕ) (ts : List (List ℕ)) → joined (take n ts) ++ joined (drop n ts) ≡ joined ts
+joined-parts zero ts = refl
+joined-parts (suc n) [] = refl
+joined-parts (suc n) (t ∷ ts) = append-assoc t (joined (take n ts)) (joined (drop n ts)) ∙ ap (λ l. t ++ l) (joined-parts n ts)
+
+-- ---- a text put from the start of a buffer that has room for it
+
+module _ {most : ℕ} {text before after : List ℕ} {next : ℕ} (put : Put text most before 0 after next) where
+  pub put-answer : (measured : ℕ) → measured ≡ 0 + length text → measured ≤ length before → Ok next ≡ save-answer text before
+  put-answer measured long room =
+      let fits : length text ≤ length before = omega arith in
+      let same : next ≡ length text = omega (arith, put .place) in
+      rw (le-leb (length text) (length before) fits) (ap Ok same)
+
+  pub put-buffer : (measured : ℕ) → measured ≡ 0 + length text → measured ≤ length before → after ≡ buffer-after text before
+  put-buffer measured long room =
+      let fits : length text ≤ length before = omega arith in
+      let whole : after ≡ text ++ drop (length text) before = put .bytes ∙ with-room before 0 text (omega arith) ∙ ap (λ k. text ++ drop k before) (omega arith) in
+      rw (le-leb (length text) (length before) fits) whole

@@ -6,6 +6,7 @@ mod product;
 mod save;
 mod writing;
 
+pub use fault::SaveFault;
 pub use fault::SheetFault;
 pub use laws::read_saves_back;
 pub use laws::save_says_the_same;

@@ -7,9 +7,10 @@ ghost use lib.ListN.{drop, length, take};
 ghost use Rattle.std.specs.Written.{decimal, joined};
 ghost use Rattle.text.specs.Written.{line-text, price-text};
 ghost use Rattle.sheet.specs.Facts.{facts, row-facts};
-ghost use Rattle.sheet.specs.Saved.{block-text, saved-lines};
+ghost use Rattle.sheet.specs.Saved.{block-text, buffer-after, save-answer, saved-lines, shape-text, written};
 ghost use Rattle.sheet.specs.Sheet.{priced};
 ghost use Rattle.sheet.specs.Writing.{Put};
+use crate::fault::SaveFault;
 use crate::offer::Offer;
 use crate::offer::PerRange;
 use crate::writing::put_byte;
@@ -95,4 +96,64 @@ fn put_head(buffer: &mut [u8], at: usize, offer: &Offer) -> usize
     let observed = put_keyed_line(buffer, domax, b"DOmax;", offer.product.domax());
     let short = put_keyed_line(buffer, observed, b"Obs_Stat;", mark(offer.observed));
     put_keyed_line(buffer, short, b"DOmin;", mark(offer.short))
+}
+
+/// Puts the line that says how many ranges, periods and blocks there are.
+fn put_shape_line(buffer: &mut [u8], at: usize, offer: &Offer) -> usize
+    requires { ⌜ at ≤ 4000 ⌝ }
+    ensures { λ r. ⌜ Put (shape-text (facts (now (offer .entry)))) 34 (now (buffer .entry)) at (now (buffer .exit)) r ⌝ }
+{
+    let periods = put_number_field(buffer, at, offer.widths.as_slice().len() as u32);
+    let block = put_number_field(buffer, periods, priced_count(offer.rows()));
+    let end = put_number_field(buffer, block, mark(offer.block.is_some()));
+    put_byte(buffer, end, b'\n')
+}
+
+/// Puts the block's line, if there is a block.
+fn put_block(buffer: &mut [u8], at: usize, block: Option<u32>) -> usize
+    requires { ⌜ at ≤ 4000 ⌝ }
+    ensures { λ r. ⌜ Put (block-text block) 15 (now (buffer .entry)) at (now (buffer .exit)) r ⌝ }
+{
+    match block {
+        Some(cents) => {
+            let end = put_price_field(buffer, at, cents);
+            put_byte(buffer, end, b'\n')
+        }
+        None => at,
+    }
+}
+
+/// Puts the lines after the first six.
+fn put_body(buffer: &mut [u8], at: usize, offer: &Offer) -> usize
+    requires { ⌜ at ≤ 2000 ⌝ }
+    ensures { λ r. ⌜ Put (joined (drop 6 (saved-lines (facts (now (offer .entry)))))) 891 (now (buffer .entry)) at (now (buffer .exit)) r ⌝ }
+{
+    let widths = put_shape_line(buffer, at, offer);
+    let periods = put_number_line(buffer, widths, offer.widths.as_slice());
+    let rows = put_period_line(buffer, periods, offer.rows());
+    let block = put_rows(buffer, rows, offer.rows());
+    put_block(buffer, block, offer.block)
+}
+
+/// Puts the whole sheet, from the buffer's start.
+fn put_sheet(buffer: &mut [u8], offer: &Offer) -> usize
+    ensures { λ r. ⌜ Put (written (facts (now (offer .entry)))) 1061 (now (buffer .entry)) 0 (now (buffer .exit)) r ⌝ }
+{
+    let body = put_head(buffer, 0, offer);
+    put_body(buffer, body, offer)
+}
+
+impl Offer {
+    /// Saves the offer as its sheet from the buffer's start, and tells how many bytes that are. No byte past them is
+    /// changed, and none at all where the buffer is too short.
+    pub fn save(&self, buffer: &mut [u8]) -> Result<usize, SaveFault>
+        ensures answer { λ r. ⌜ r ≡ save-answer (written (facts (now (self .entry)))) (now (buffer .entry)) ⌝ }
+        ensures buffer { λ _. ⌜ now (buffer .exit) ≡ buffer-after (written (facts (now (self .entry)))) (now (buffer .entry)) ⌝ }
+    {
+        let length = put_sheet(&mut [], self);
+        if length > buffer.len() {
+            return Err(SaveFault::Space);
+        }
+        Ok(put_sheet(buffer, self))
+    }
 }
