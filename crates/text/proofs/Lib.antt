@@ -4,3 +4,7 @@ pub mod NumbersBack
 pub mod FieldsBack
 pub mod Parts
 pub mod FormKeeps
+pub mod Fields
+pub mod Keywords
+pub mod Numerals
+pub mod Runs

@@ -1,10 +1,18 @@
 //! What a text is made of: whole numbers, prices, names and the bytes that end fields and lines.
-ghost use mathlib.Core.Path.{_≡_};
-ghost use Rattle.text.specs.Form.{digit};
+mod digits;
+mod ends;
+mod line;
+mod number;
+mod values;
 
-/// Whether a byte is one of the digits 0 to 9.
-pub fn is_digit(byte: u8) -> bool
-    ensures { λ r. ⌜ r ≡ digit byte ⌝ }
-{
-    matches!(byte as char, '0'..='9')
-}
+pub use digits::is_digit;
+pub use ends::field_end;
+pub use ends::line_end;
+pub use line::number_line;
+pub use number::Number;
+pub use number::WHOLE_DIGITS;
+pub use number::closing_number;
+pub use number::number_field;
+pub use number::whole;
+pub use values::MOST_FIELDS;
+pub use values::Values;

@@ -1,0 +1,62 @@
+//! Digits at the front of a text, and the number that they write.
+ghost use mathlib.Core.Bool.{true};
+ghost use mathlib.Core.Path.{_≡_};
+ghost use Prim.Native.Nat.{ℕ, _^_, _<_, _≤_};
+ghost use lib.ListN.{length};
+ghost use Rattle.std.specs.shelf.Lists.{All, leading};
+ghost use Rattle.text.specs.Form.{digit, needless-zero, run, value as value-of};
+ghost use Rattle.text.specs.Tokens.{part-read};
+
+/// Whether a byte is one of the digits 0 to 9.
+pub fn is_digit(byte: u8) -> bool
+    ensures { λ r. ⌜ r ≡ digit byte ⌝ }
+{
+    matches!(byte as char, '0'..='9')
+}
+
+/// How many digits stand at the front.
+fn leading_digits(text: &[u8]) -> usize
+    ensures count { λ r. ⌜ r ≡ leading digit (now (text .entry)) ⌝ }
+    ensures within { λ r. ⌜ r ≤ length (now (text .entry)) ⌝ }
+{
+    for (n, byte) in text.iter().enumerate() {
+        if !is_digit(*byte) {
+            return n;
+        }
+    }
+    text.len()
+}
+
+/// The digits at the front, if they are at least one and not more than `most`, and what follows them.
+pub(crate) fn digits<'a>(text: &'a [u8], most: usize) -> Option<(&'a [u8], &'a [u8])>
+    ensures { λ r. ⌜ part-read r ≡ run digit 1 most (now (text .entry)) ⌝ }
+{
+    let n = leading_digits(text);
+    if n < 1 {
+        return None;
+    }
+    if n > most {
+        return None;
+    }
+    Some((&text[0..n], &text[n..]))
+}
+
+/// Whether digits begin with a zero that they could do without.
+pub(crate) fn needless_zero(digits: &[u8]) -> bool
+    ensures { λ r. ⌜ r ≡ needless-zero (now (digits .entry)) ⌝ }
+{
+    matches!(digits, [b'0', _, ..])
+}
+
+/// The number that digits write.
+pub(crate) fn value(digits: &[u8]) -> u64
+    requires digits { ⌜ All (λ b. digit b ≡ true) (now digits) ⌝ }
+    requires few { ⌜ length (now digits) ≤ 10 ⌝ }
+    ensures { λ r. ⌜ r ≡ value-of (now (digits .entry)) ⌝ }
+{
+    let mut value = 0;
+    for byte in digits {
+        value = value * 10 + (*byte - b'0') as u64;
+    }
+    value
+}
