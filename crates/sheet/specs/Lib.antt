@@ -3,3 +3,5 @@ pub mod Offer
 pub mod Fault
 pub mod Sheet
 pub mod Saved
+pub mod Facts
+pub mod Writing

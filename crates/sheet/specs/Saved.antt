@@ -5,17 +5,19 @@ use mathlib.Core.List.{List, [], _∷_, _++_, map}
 use Prim.Native.Nat.{ℕ, _≤_}
 use lib.Chars.{codes}
 use lib.Dec.{leb}
-use lib.ListN.{length, getD}
+use lib.ListN.{length, getD, drop}
 use Rattle.std.specs.Options.{isSome}
 use Rattle.std.specs.Written.{decimal, joined}
 use Rattle.std.specs.shelf.Lists.{All}
 use Rattle.std.specs.declared.option.Option.{Option}
 use Rattle.std.specs.declared.option.Option.the-variants.{Some, None}
 use Rattle.std.specs.declared.result.Result.{Result}
-use Rattle.std.specs.declared.result.Result.the-variants.{Ok}
+use Rattle.std.specs.declared.result.Result.the-variants.{Ok, Err}
 use Rattle.text.specs.Form.{letter-or-digit}
 use Rattle.text.specs.Written.{price-text, line-text}
 use Rattle.sheet.specs.declared.fault.SheetFault.{SheetFault}
+use Rattle.sheet.specs.declared.fault.SaveFault.{SaveFault}
+use Rattle.sheet.specs.declared.fault.SaveFault.the-variants.{Space}
 use Rattle.sheet.specs.Limits.{longest-name, highest-number, lowest-floor, highest-floor, most-ranges, widest, most-periods, highest-price, highest-block}
 use Rattle.sheet.specs.Offer.{Offer, width}
 use Rattle.sheet.specs.Sheet.{_>>=_, dmo, domax, chain, priced, read, read-alone}
@@ -27,6 +29,10 @@ abbrev pub block-text : Option ℕ → List ℕ
 block-text None = []
 block-text (Some price) = line-text (price-text price ∷ [])
 
+-- how many ranges, priced periods and blocks
+abbrev pub shape-text : Offer → List ℕ
+shape-text o = line-text (decimal (length (o .widths)) ∷ decimal (length (priced 1 (o .rows))) ∷ mark-text (isSome (o .block)) ∷ [])
+
 -- the lines of an offer as it is saved; the price lines are one text, and so is the block's, if any
 abbrev pub saved-lines : Offer → List (List ℕ)
 saved-lines o =
@@ -37,7 +43,7 @@ saved-lines o =
     ∷ line-text (codes "DOmax" ∷ decimal (domax (o .product)) ∷ [])
     ∷ line-text (codes "Obs_Stat" ∷ mark-text (o .observed) ∷ [])
     ∷ line-text (codes "DOmin" ∷ mark-text (o .short) ∷ [])
-    ∷ line-text (decimal (length (o .widths)) ∷ decimal (length rows) ∷ mark-text (isSome (o .block)) ∷ [])
+    ∷ shape-text o
     ∷ line-text (map decimal (o .widths))
     ∷ line-text (map (λ p. decimal (p .0)) rows)
     ∷ joined (map (λ p. line-text (map price-text (p .1))) rows)
@@ -47,6 +53,14 @@ saved-lines o =
 -- an offer as it is saved
 abbrev pub written : Offer → List ℕ
 written o = joined (saved-lines o)
+
+-- what a save of a text into a buffer answers: its length, unless it is longer than the buffer
+abbrev pub save-answer : (text buffer : List ℕ) → Result ℕ SaveFault
+save-answer text buffer = cond (leb (length text) (length buffer)) (Ok (length text)) (Err Space)
+
+-- what the buffer then holds: the text from its start and, past it, what was there; all as before where it is too short
+abbrev pub buffer-after : (text buffer : List ℕ) → List ℕ
+buffer-after text buffer = cond (leb (length text) (length buffer)) (text ++ drop (length text) buffer) buffer
 
 -- ---- the limits of a sheet
 

@@ -1,6 +1,6 @@
-//! Why a text is no sheet.
+//! Why a text is no sheet, and why an offer is not saved.
 ghost use mathlib.Core.Path.{_≡_};
-ghost use Rattle.sheet.specs.Fault.{number-and-place};
+ghost use Rattle.sheet.specs.Fault.{number-and-place, save-number-and-place};
 
 /// What is wrong with a text, each with the line at which it is wrong.
 #[derive(Clone, Copy, PartialEq)]
@@ -49,5 +49,23 @@ impl SheetFault {
         ensures { λ r. ⌜ (r .0, r .1) ≡ number-and-place self ⌝ }
     {
         (self.number(), self.place())
+    }
+}
+
+/// Why an offer is not saved.
+#[derive(Clone, Copy, PartialEq)]
+pub enum SaveFault {
+    /// The buffer is too short for the sheet.
+    Space,
+}
+
+impl SaveFault {
+    /// Number and place of the refusal.
+    pub fn number_and_place(self) -> (u32, u32)
+        ensures { λ r. ⌜ (r .0, r .1) ≡ save-number-and-place self ⌝ }
+    {
+        match self {
+            SaveFault::Space => (13, 0),
+        }
     }
 }

@@ -39,11 +39,17 @@ impl Values {
     pub fn get(&self, i: usize) -> Option<u64>
         ensures { λ r. ⌜ r ≡ nth (values-of (now (self .entry))) i ⌝ }
     {
-        let values = self.as_slice();
-        if i < values.len() {
-            Some(values[i])
-        } else {
-            None
-        }
+        at(self.as_slice(), i)
+    }
+}
+
+/// The value of a slice at a place, if it has one there.
+fn at(values: &[u64], i: usize) -> Option<u64>
+    ensures { λ r. ⌜ r ≡ nth (now (values .entry)) i ⌝ }
+{
+    if i < values.len() {
+        Some(values[i])
+    } else {
+        None
     }
 }
