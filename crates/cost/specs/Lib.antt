@@ -1,0 +1,5 @@
+pub mod Rule
+pub mod Whole
+pub mod Money
+pub mod LeftOut
+pub mod Pair
