@@ -3,3 +3,4 @@ pub mod Whole
 pub mod Money
 pub mod LeftOut
 pub mod Pair
+pub mod Scan

@@ -5,6 +5,7 @@ pub mod left_out;
 pub mod money;
 pub mod pair;
 pub mod rule;
+pub mod scan;
 
 pub use left_out::LeftOut;
 pub use left_out::LeftOutRule;
@@ -13,3 +14,4 @@ pub use money::MoneyRule;
 pub use pair::Pair;
 pub use pair::PairRule;
 pub use rule::CostRule;
+pub use scan::cheapest;

@@ -1,0 +1,16 @@
+-- The first cheapest of a list of costs. Assumes nothing.
+use mathlib.Core.List.{List}
+use Prim.Native.Nat.{ℕ, _<_}
+use lib.ListN.{getD, length}
+use Rattle.cost.specs.Rule.{Rule}
+
+-- the first cheapest of the first n costs stands at r
+pub record Cheapest (R : Rule) {C : Type 0} (meaning : C → R .Meaning) (costs : List C) (n r : ℕ) : Type 0 where
+  pub among : r < n
+  -- none is cheaper
+  pub least : (k : ℕ) (d : C) → k < n → R .cheaper (meaning (getD costs k d)) (meaning (getD costs r d)) → ⊥
+  -- each one before it is dearer
+  pub first : (k : ℕ) (d : C) → k < r → R .cheaper (meaning (getD costs r d)) (meaning (getD costs k d))
+
+abbrev pub First-cheapest : (R : Rule) {C : Type 0} → (C → R .Meaning) → List C → ℕ → Type 0
+First-cheapest R meaning costs r = Cheapest R meaning costs (length costs) r
