@@ -54,6 +54,6 @@ pub cheapest-once : (R : Rule) {C : Type 0} (meaning : C → R .Meaning) (xs : L
 cheapest-once R meaning [] r s a b = let n = a .among in absurd (omega arith)
 cheapest-once R meaning (x ∷ xs) r s a b =
     elim (cases-order r s) [
-      inl e ↦ e
-    | inr o ↦ elim o [ inl h ↦ absurd (a .least s x (b .among) (b .first r x h)) | inr h ↦ absurd (b .least r x (a .among) (a .first s x h)) ]
+      | inl e ↦ e
+      | inr o ↦ elim o [ inl h ↦ absurd (a .least s x (b .among) (b .first r x h)) | inr h ↦ absurd (b .least r x (a .among) (a .first s x h)) ]
     ]

@@ -4,3 +4,4 @@ pub mod Money
 pub mod LeftOut
 pub mod Pair
 pub mod Scan
+pub mod Grid
