@@ -60,6 +60,7 @@ impl<'a, C: Copy> Grid<'a, C> {
     pub fn put(&mut self, row: usize, column: usize, value: C) -> Option<C>
         ensures held { λ r. ⌜ r ≡ cell (table (now (self .entry))) row column ⌝ }
         ensures after { λ _. ⌜ table (now (self .exit)) ≡ with-cell (table (now (self .entry))) row column value ⌝ }
+        ensures others { λ _. ⌜ ((i j : ℕ) → (i ≡ row → j ≡ column → ⊥) → cell (table (now (self .exit))) i j ≡ cell (table (now (self .entry))) i j) ⌝ }
         ensures slice { λ _. ⌜ name (now (self .exit) .cells) ≡ name (now (self .entry) .cells) ⌝ }
     {
         let i = self.place_of(row, column)?;
