@@ -47,13 +47,14 @@ place t i j = cond (ltb j (t .columns)) (mapped (λ from. from + j) (row-start t
 abbrev pub cell : {C : Type 0} → Table C → ℕ → ℕ → Option C
 cell t i j = flattened (mapped (nth (t .cells)) (place t i j))
 
-abbrev pub put-at : {C : Type 0} → Table C → Option ℕ → C → Table C
-put-at t None x = t
-put-at t (Some at) x = record { rows = t .rows; columns = t .columns; cells = set (t .cells) at x }
+-- the cells with x at a place, if there is one
+abbrev pub put-at : {C : Type 0} → List C → Option ℕ → C → List C
+put-at cells None x = cells
+put-at cells (Some at) x = set cells at x
 
 -- the table with x in row i and column j, and all else as it was
 abbrev pub with-cell : {C : Type 0} → Table C → ℕ → ℕ → C → Table C
-with-cell t i j x = put-at t (place t i j) x
+with-cell t i j x = record { rows = t .rows; columns = t .columns; cells = put-at (t .cells) (place t i j) x }
 
 -- the table with x in every cell
 abbrev pub filled : {C : Type 0} → Table C → C → Table C

@@ -1,7 +1,10 @@
 -- The first cheapest of a list of costs. Assumes nothing.
+use mathlib.Core.Path.{_≡_}
 use mathlib.Core.List.{List}
 use Prim.Native.Nat.{ℕ, _<_}
 use lib.ListN.{getD, length}
+use Rattle.std.specs.Options.{Cases}
+use Rattle.std.specs.declared.option.Option.{Option}
 use Rattle.cost.specs.Rule.{Rule}
 
 -- the first cheapest of the first n costs stands at r
@@ -14,3 +17,7 @@ pub record Cheapest (R : Rule) {C : Type 0} (meaning : C → R .Meaning) (costs 
 
 abbrev pub First-cheapest : (R : Rule) {C : Type 0} → (C → R .Meaning) → List C → ℕ → Type 0
 First-cheapest R meaning costs r = Cheapest R meaning costs (length costs) r
+
+-- what a scan answers: where the first cheapest cost stands, or none where there is no cost
+abbrev pub Scanned : (R : Rule) {C : Type 0} → (C → R .Meaning) → List C → Option ℕ → Type 0
+Scanned R meaning costs r = Cases r (length costs ≡ 0) (First-cheapest R meaning costs)

@@ -17,3 +17,4 @@ pub use pair::Pair;
 pub use pair::PairRule;
 pub use rule::CostRule;
 pub use scan::cheapest;
+pub use scan::cheapest_in;

@@ -1,14 +1,16 @@
 //! Scans over the caller's costs, for every rule.
 ghost use mathlib.Core.Path.{_≡_};
-ghost use lib.ListN.{length};
 ghost use Rattle.std.specs.Options.{Cases};
-ghost use Rattle.cost.specs.Scan.{First-cheapest};
+ghost use Rattle.std.specs.declared.option.Option.the-variants.{None};
+ghost use Rattle.cost.specs.Grid.{table, row-of};
+ghost use Rattle.cost.specs.Scan.{Scanned};
+use crate::grid::Grid;
 use crate::rule::CostRule;
 use std::cmp::Ordering;
 
 /// Where the first cheapest cost stands; none if there is no cost.
 pub fn cheapest<R: CostRule>(rule: &R, costs: &[R::Cost]) -> Option<usize>
-    ensures { λ r. ⌜ Cases r (length (now (costs .entry)) ≡ 0) (First-cheapest (R·CostRule .rule) (R·CostRule .meaning) (now (costs .entry))) ⌝ }
+    ensures { λ r. ⌜ Scanned (R·CostRule .rule) (R·CostRule .meaning) (now (costs .entry)) r ⌝ }
 {
     if costs.is_empty() {
         return None;
@@ -22,4 +24,11 @@ pub fn cheapest<R: CostRule>(rule: &R, costs: &[R::Cost]) -> Option<usize>
         };
     }
     Some(best)
+}
+
+/// The column of the first cheapest cost in a row; none if the grid has no such row or the row is empty.
+pub fn cheapest_in<R: CostRule>(rule: &R, grid: &Grid<'_, R::Cost>, row: usize) -> Option<usize>
+    ensures { λ r. ⌜ Cases (row-of (table (now (grid .entry))) row) (r ≡ None) (λ costs. Scanned (R·CostRule .rule) (R·CostRule .meaning) costs r) ⌝ }
+{
+    cheapest(rule, grid.row(row)?)
 }
