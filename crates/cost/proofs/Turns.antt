@@ -11,14 +11,8 @@ use borrow.Author.Count.{below-more}
 use Rattle.std.specs.declared.cmp.Ordering.{Ordering}
 use Rattle.std.specs.declared.cmp.Ordering.the-variants.{Less, Equal, Greater}
 use Rattle.cost.specs.Rule.{Rule, Ranks}
-use Rattle.cost.specs.Scan.{Cheapest, First-cheapest}
+use Rattle.cost.specs.Scan.{Cheapest, First-cheapest, chosen}
 use Rattle.cost.proofs.Order.{under, not-same, not-both}
-
--- the place that a scan goes on with: the new one only where it is cheaper
-abbrev pub chosen : Ordering → ℕ → ℕ → ℕ
-chosen Less i b = i
-chosen Equal i b = b
-chosen Greater i b = b
 
 module _ (R : Rule) {C : Type 0} (meaning : C → R .Meaning) (xs : List C) (i b : ℕ) (x y : C) (so : Cheapest R meaning xs i b) (lt : i < length xs) (xi : x ≡ getD xs i x) (yb : y ≡ getD xs b y) where
   here : (d : C) → meaning x ≡ meaning (getD xs i d)

@@ -4,6 +4,8 @@ use mathlib.Core.List.{List}
 use Prim.Native.Nat.{ℕ, _<_}
 use lib.ListN.{getD, length}
 use Rattle.std.specs.Options.{Cases}
+use Rattle.std.specs.declared.cmp.Ordering.{Ordering}
+use Rattle.std.specs.declared.cmp.Ordering.the-variants.{Less, Equal, Greater}
 use Rattle.std.specs.declared.option.Option.{Option}
 use Rattle.cost.specs.Rule.{Rule}
 
@@ -21,3 +23,9 @@ First-cheapest R meaning costs r = Cheapest R meaning costs (length costs) r
 -- what a scan answers: where the first cheapest cost stands, or none where there is no cost
 abbrev pub Scanned : (R : Rule) {C : Type 0} → (C → R .Meaning) → List C → Option ℕ → Type 0
 Scanned R meaning costs r = Cases r (length costs ≡ 0) (First-cheapest R meaning costs)
+
+-- the place that a scan goes on with: the new one only where it is cheaper
+abbrev pub chosen : Ordering → (new best : ℕ) → ℕ
+chosen Less new best = new
+chosen Equal new best = best
+chosen Greater new best = best

@@ -1,6 +1,6 @@
 //! A grid of rows and columns over a caller's slice of cells.
 ghost use mathlib.Core.Path.{_≡_};
-ghost use Prim.Native.Nat.{ℕ, _+_, _*_, _<_, _≤_};
+ghost use Prim.Native.Nat.{_+_, _*_, _<_, _≤_};
 ghost use denote.Ref.{name};
 ghost use lib.ListN.{length, set, replicate};
 ghost use Rattle.std.specs.Finite.{nth};
@@ -60,7 +60,6 @@ impl<'a, C: Copy> Grid<'a, C> {
     pub fn put(&mut self, row: usize, column: usize, value: C) -> Option<C>
         ensures held { λ r. ⌜ r ≡ cell (table (now (self .entry))) row column ⌝ }
         ensures after { λ _. ⌜ table (now (self .exit)) ≡ with-cell (table (now (self .entry))) row column value ⌝ }
-        ensures others { λ _. ⌜ ((i j : ℕ) → (i ≡ row → j ≡ column → ⊥) → cell (table (now (self .exit))) i j ≡ cell (table (now (self .entry))) i j) ⌝ }
         ensures slice { λ _. ⌜ name (now (self .exit) .cells) ≡ name (now (self .entry) .cells) ⌝ }
     {
         let i = self.place_of(row, column)?;

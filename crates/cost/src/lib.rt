@@ -18,3 +18,6 @@ pub use pair::PairRule;
 pub use rule::CostRule;
 pub use scan::cheapest;
 pub use scan::cheapest_in;
+
+#[cfg(test)]
+mod tests;

@@ -3,7 +3,7 @@ ghost use mathlib.Core.Path.{_≡_};
 ghost use Rattle.std.specs.Options.{Cases};
 ghost use Rattle.std.specs.declared.option.Option.the-variants.{None};
 ghost use Rattle.cost.specs.Grid.{table, row-of};
-ghost use Rattle.cost.specs.Scan.{Scanned};
+ghost use Rattle.cost.specs.Scan.{Scanned, chosen};
 use crate::grid::Grid;
 use crate::rule::CostRule;
 use std::cmp::Ordering;
@@ -17,13 +17,20 @@ pub fn cheapest<R: CostRule>(rule: &R, costs: &[R::Cost]) -> Option<usize>
     }
     let mut best = 0;
     for i in 1..costs.len() {
-        best = match rule.compare(costs[i], costs[best]) {
-            Ordering::Less => i,
-            Ordering::Equal => best,
-            Ordering::Greater => best,
-        };
+        best = better(rule.compare(costs[i], costs[best]), i, best);
     }
     Some(best)
+}
+
+/// The new place where its cost is cheaper; of equal costs the first stays the best.
+fn better(order: Ordering, new: usize, best: usize) -> usize
+    ensures { λ r. ⌜ r ≡ chosen order new best ⌝ }
+{
+    match order {
+        Ordering::Less => new,
+        Ordering::Equal => best,
+        Ordering::Greater => best,
+    }
 }
 
 /// The column of the first cheapest cost in a row; none if the grid has no such row or the row is empty.
