@@ -4,13 +4,11 @@ use mathlib.Core.Bool.{Bool, true, false, cond, _&&_}
 use mathlib.Core.List.{List, [], _∷_, map}
 use Prim.Native.Nat.{ℕ, _-_, _≤_}
 use lib.Dec.{eqb}
-use lib.ListN.{length, getD}
+use lib.ListN.{length}
 use Rattle.std.specs.Options.{isSome}
 use Rattle.std.specs.shelf.Lists.{All}
 use Rattle.std.specs.shelf.Text.{sameBytes}
-use Rattle.std.specs.declared.option.Option.{Option}
-use Rattle.std.specs.declared.option.Option.the-variants.{Some, None}
-use Rattle.sheet.specs.Offer.{Offer, total, width}
+use Rattle.sheet.specs.Offer.{Offer, total, width, prices-at}
 use Rattle.sheet.specs.Saved.{Fits}
 use Rattle.sheet.specs.declared.product.Product.{Product}
 use Rattle.sheet.specs.declared.product.Product.the-variants.{Rapid, Complementary}
@@ -42,11 +40,7 @@ count test xs = total (map (λ x. cond (test x) 1 0) xs)
 
 -- the prices of an offer in period t, counted from 1, by range: none where it is not offered
 abbrev pub row : Offer → ℕ → List ℕ
-row o t = listed (getD (o .rows) (t - 1) None)
-  where
-    listed : Option (List ℕ) → List ℕ
-    listed None = []
-    listed (Some prices) = prices
+row o t = prices-at o (t - 1)
 
 -- the ranges that a candidate offers in period t, of either product
 abbrev pub ranges : (name : List ℕ) → List Offer → (t : ℕ) → ℕ

@@ -1,3 +1,4 @@
+pub mod Asked
 mod Each
 mod Short
 mod Periods

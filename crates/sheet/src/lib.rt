@@ -4,6 +4,7 @@ mod keywords;
 mod laws;
 mod offer;
 mod product;
+mod questions;
 mod save;
 mod writing;
 
