@@ -1,6 +1,11 @@
 //! Books: lists of offers under one calendar. The register is the book that a clerk keeps.
 mod fault;
+mod judging;
 mod need;
+mod others;
+mod places;
+mod table;
 
 pub use fault::RegisterFault;
 pub use need::Need;
+pub use table::MOST_OFFERS;

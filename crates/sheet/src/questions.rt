@@ -60,7 +60,8 @@ impl Offer {
 
     /// MW of all ranges.
     pub fn width(&self) -> u64
-        ensures { λ r. ⌜ r ≡ width (facts (now (self .entry))) ⌝ }
+        ensures value { λ r. ⌜ r ≡ width (facts (now (self .entry))) ⌝ }
+        ensures bound { λ r. ⌜ r ≤ 17179869184 ⌝ }
     {
         sum(self.widths())
     }
@@ -91,7 +92,8 @@ impl Offer {
 
 fn sum(widths: &[u32]) -> u64
     requires { ⌜ length (now widths) ≤ 4 ⌝ }
-    ensures { λ r. ⌜ r ≡ total (now (widths .entry)) ⌝ }
+    ensures value { λ r. ⌜ r ≡ total (now (widths .entry)) ⌝ }
+    ensures bound { λ r. ⌜ r ≤ 17179869184 ⌝ }
 {
     let mut all = 0;
     for width in widths {

@@ -10,4 +10,8 @@ loop-width-again c =
     )
 
 pub returns : need.returns
-returns c = total-all (c .args .widths .now) (c .loop-width .width-index) (c .loop-width .all) (c .loop-width-test .left) (c .loop-width .inv .0)
+returns c =
+    record {
+      value = total-all (c .args .widths .now) (c .loop-width .width-index) (c .loop-width .all) (c .loop-width-test .left) (c .loop-width .inv .0);
+      bound = omega (arith, c .loop-width .inv .1, c .loop-width .kept .width-index-end, c .pre);
+    }
