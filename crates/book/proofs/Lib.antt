@@ -1,3 +1,4 @@
 pub mod Adding
 pub mod Finding
 pub mod Firsts
+pub mod Placed

@@ -4,6 +4,7 @@ mod judging;
 mod need;
 mod others;
 mod places;
+mod standing;
 mod table;
 
 pub use fault::RegisterFault;
