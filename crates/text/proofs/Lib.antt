@@ -1,4 +1,5 @@
 pub mod Fields
 pub mod Keywords
 pub mod Numerals
+pub mod Prices
 pub mod Runs
