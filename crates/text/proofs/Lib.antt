@@ -3,3 +3,4 @@ pub mod Keywords
 pub mod Numerals
 pub mod Prices
 pub mod Runs
+pub mod Writes
