@@ -6,5 +6,7 @@ pub mod Keywords
 pub mod NumbersBack
 pub mod Numerals
 pub mod Parts
+pub mod Prices
 pub mod Runs
 pub mod RunsBack
+pub mod Writes

@@ -1,3 +1,4 @@
+pub mod Buffers
 pub mod Form
 pub mod Judging
 pub mod Laws
