@@ -1,2 +1,3 @@
+mod Highs
 mod Numbers
 mod Rows

@@ -1,3 +1,4 @@
 pub mod Fault
+pub mod Needs
 pub mod Opening
 pub mod Report

@@ -1,5 +1,6 @@
 //! The text of a whole tender: its first lines, and the answer that is printed for it.
 mod fault;
+mod needs;
 mod opening;
 mod printing;
 

@@ -26,7 +26,11 @@ pub struct FirstLines<'a> {
 }
 
 /// The numbers of a line, which is counted from the text's first, and what follows it.
-fn numbers<'a>(line: u32, count: usize, text: &'a [u8]) -> Result<(Values, &'a [u8]), TenderFault>
+pub(crate) fn numbers<'a>(
+    line: u32,
+    count: usize,
+    text: &'a [u8],
+) -> Result<(Values, &'a [u8]), TenderFault>
     requires { ⌜ count ≤ 11 ⌝ }
     ensures value { λ r. ⌜ numbers-read r ≡ numbers-of line count (now (text .entry)) ⌝ }
     ensures long { λ r. ⌜ made r (λ read. length (values-of (read .0)) ≡ count) ⌝ }
