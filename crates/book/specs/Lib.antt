@@ -1,3 +1,5 @@
+pub mod Book
+pub mod Calls
 pub mod Deposit
 pub mod Fault
 pub mod Limits

@@ -3,8 +3,8 @@ ghost use mathlib.Core.List.{map};
 ghost use mathlib.Core.Path.{_≡_};
 ghost use Prim.Native.Nat.{_<_};
 ghost use lib.ListN.{length};
-ghost use Rattle.std.specs.Options.{Cases as BySome};
 ghost use Rattle.std.specs.shelf.Text.{sameBytes};
+ghost use Rattle.text.specs.Tokens.{If-some};
 ghost use Rattle.sheet.specs.Facts.{facts};
 ghost use Rattle.book.specs.Limits.{is};
 ghost use Rattle.book.specs.Table.{place-of};
@@ -27,7 +27,7 @@ pub(crate) fn is_named(offer: &Offer, name: &[u8], number: u64) -> bool
 /// The place of the offer of that name and number, counted from 0.
 pub(crate) fn find(offers: &[Offer], name: &[u8], number: u64) -> Option<usize>
     ensures value { λ r. ⌜ r ≡ place-of (now (name .entry)) number (map facts (now (offers .entry))) ⌝ }
-    ensures inside { λ r. ⌜ BySome r (length (now (offers .entry)) ≡ length (now (offers .entry))) (λ i. i < length (now (offers .entry))) ⌝ }
+    ensures inside { λ r. ⌜ If-some r (λ i. i < length (now (offers .entry))) ⌝ }
 {
     for (i, offer) in offers.iter().enumerate() {
         if is_named(offer, name, number) {

@@ -1,4 +1,4 @@
-use mathlib.Core.Path.{refl, sym, _∙_}
+use mathlib.Core.Path.{sym, _∙_}
 use Rattle.book.proofs.Finding.{found-here, found-later, found-nowhere}
 use Rattle.book.proofs.places.find.Needs as need
 
@@ -15,4 +15,4 @@ loop-i-again c =
 
 pub returns : need.returns
 returns c =
-    record { value = sym (found-nowhere (c .args .name .now) (c .args .number) (c .args .offers .now) (c .loop-i .i) (c .loop-i-test .left)) ∙ c .loop-i .inv; inside = refl }
+    record { value = sym (found-nowhere (c .args .name .now) (c .args .number) (c .args .offers .now) (c .loop-i .i) (c .loop-i-test .left)) ∙ c .loop-i .inv; inside = tt }
