@@ -1,5 +1,6 @@
 //! A sheet is one offer: what its text says, and how it is saved.
 mod fault;
+mod head;
 mod keywords;
 mod laws;
 mod offer;
