@@ -6,6 +6,7 @@ mod laws;
 mod offer;
 mod product;
 mod save;
+mod shape;
 mod writing;
 
 pub use fault::SaveFault;
