@@ -7,4 +7,5 @@ mod SheetKeeps
 mod Kept
 mod Puts
 mod Rows
+mod Judged
 mod Examples

@@ -7,6 +7,7 @@ mod offer;
 mod product;
 mod save;
 mod shape;
+mod values;
 mod writing;
 
 pub use fault::SaveFault;
