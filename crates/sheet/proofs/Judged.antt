@@ -10,6 +10,7 @@ use lib.ListN.{length, getD, drop}
 use Rattle.std.proofs.shelf.Lists.{drop-more, drop-all, length-drop}
 use Rattle.std.proofs.shelf.Tests.{le-leb}
 use Rattle.text.specs.Form.{between}
+use Rattle.sheet.specs.Offer.{total}
 use Rattle.sheet.specs.Sheet.{every, chain}
 
 module _ (test : ℕ → Bool) (xs : List ℕ) (i : ℕ) where
@@ -53,3 +54,11 @@ module _ (tied : ℕ → ℕ → Bool) (xs : List ℕ) (i : ℕ) where
       short [] le = refl
       short (y ∷ []) le = refl
       short (y ∷ z ∷ ys) le = absurd (omega arith)
+
+-- ---- a sum so far, and what is left
+
+pub total-here : (xs : List ℕ) (i : ℕ) → i < length xs → total (drop i xs) ≡ getD xs i 0 + total (drop (i + 1) xs)
+total-here xs i h = ap total (drop-more xs i 0 h)
+
+pub total-ends : (xs : List ℕ) (i : ℕ) → length xs ≤ i → total (drop i xs) ≡ 0
+total-ends xs i h = ap total (drop-all i xs h)

@@ -24,7 +24,7 @@ use Rattle.sheet.specs.declared.fault.SheetFault.the-variants.{Order, PartMont
 use Rattle.sheet.specs.Sheet.{Line, line, itself, agreeing, every, chain, identifier-line, floor-line, product-line, dmo, domax, domax-line, mark-line, Shape, shape-of, shape-fits, shape-line, width-line, period-line, price-line, price-lines, block-line}
 use Rattle.text.specs.Written.{price-text, line-text}
 use Rattle.sheet.specs.Saved.{mark-text, block-text, Row-fits, Block-fits}
-use Rattle.text.proofs.Alls.{all-weaker}
+use Rattle.std.proofs.shelf.Elements.{all-weaker}
 use Rattle.sheet.proofs.Each.{every-from}
 use Rattle.text.proofs.RunsBack.{within}
 use Rattle.text.proofs.FieldsBack.{one-reads, keyed-reads, named-reads, price-back}

@@ -1,6 +1,10 @@
 //! What the values of a line must be.
 ghost use mathlib.Core.Path.{_≡_};
+ghost use Prim.Native.Nat.{_^_, _<_, _≤_};
 ghost use lib.Dec.{leb, ltb};
+ghost use lib.ListN.{length};
+ghost use Rattle.std.specs.shelf.Lists.{All};
+ghost use Rattle.sheet.specs.Offer.{total as total-of};
 ghost use Rattle.sheet.specs.Sheet.{chain, every};
 ghost use Rattle.text.specs.Form.{between};
 
@@ -38,4 +42,17 @@ pub(crate) fn never_falling(values: &[u64]) -> bool
         }
     }
     true
+}
+
+/// Their sum.
+pub(crate) fn total(values: &[u64]) -> u64
+    requires few { ⌜ length (now values) ≤ 11 ⌝ }
+    requires small { ⌜ All (λ v. v < 10 ^ 10) (now values) ⌝ }
+    ensures { λ r. ⌜ r ≡ total-of (now (values .entry)) ⌝ }
+{
+    let mut sum = 0;
+    for value in values {
+        sum += *value;
+    }
+    sum
 }

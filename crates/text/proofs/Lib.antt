@@ -1,4 +1,3 @@
-pub mod Alls
 pub mod RunsBack
 pub mod NumbersBack
 pub mod FieldsBack
