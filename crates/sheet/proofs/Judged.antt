@@ -3,15 +3,19 @@ use mathlib.Core.Path.{_≡_, refl, sym, ap, _∙_}
 use mathlib.Core.Bool.{Bool, true, false, _&&_}
 use mathlib.Core.List.{List, [], _∷_}
 use mathlib.Core.Logic.{_⊎_, ⊎-elim}
-use Prim.Native.Nat.{ℕ, _+_, _-_, _<_, _≤_}
+use Prim.Native.Nat.{ℕ, _+_, _-_, _^_, _<_, _≤_}
 use native.Mathlib.Omega.{arith}
-use lib.Dec.{leb}
+use lib.Dec.{eqb, leb}
 use lib.ListN.{length, getD, drop}
 use Rattle.std.proofs.shelf.Lists.{drop-more, drop-all, length-drop}
-use Rattle.std.proofs.shelf.Tests.{le-leb}
+use Rattle.std.proofs.shelf.Tests.{and-parts, le-leb}
+use Rattle.std.specs.shelf.Lists.{All}
+use Rattle.text.proofs.FormKeeps.{within-from}
+use Rattle.sheet.specs.Limits.{widest}
+use Rattle.sheet.proofs.Each.{all-from-every}
 use Rattle.text.specs.Form.{between}
 use Rattle.sheet.specs.Offer.{total}
-use Rattle.sheet.specs.Sheet.{every, chain}
+use Rattle.sheet.specs.Sheet.{every, chain, widths-fit}
 
 module _ (test : ℕ → Bool) (xs : List ℕ) (i : ℕ) where
   pub every-here : i < length xs → every test (drop i xs) ≡ (test (getD xs i 0) && every test (drop (i + 1) xs))
@@ -62,3 +66,11 @@ total-here xs i h = ap total (drop-more xs i 0 h)
 
 pub total-ends : (xs : List ℕ) (i : ℕ) → length xs ≤ i → total (drop i xs) ≡ 0
 total-ends xs i h = ap total (drop-all i xs h)
+
+-- ---- values that were judged fit their place
+
+pub widths-small : (floor : ℕ) (ws : List ℕ) → widths-fit floor ws ≡ true → All (λ w. w < 2 ^ 32) ws
+widths-small floor ws h =
+    let first = and-parts (every (between 1 widest) ws && eqb (getD ws 0 0) floor) (leb (total ws) widest) h .0 in
+    let each = and-parts (every (between 1 widest) ws) (eqb (getD ws 0 0) floor) first .0 in
+    all-from-every (between 1 widest) (λ w. w < 2 ^ 32) (λ w t. let most = within-from 1 widest w t in omega arith) ws each

@@ -57,7 +57,11 @@ fn read_product<'a>(line: u32, text: &'a [u8]) -> Result<(Product, &'a [u8]), Sh
 }
 
 /// The number after `DOmax`, which the product fixes.
-fn read_domax<'a>(product: Product, line: u32, text: &'a [u8]) -> Result<(u64, &'a [u8]), SheetFault>
+fn read_domax<'a>(
+    product: Product,
+    line: u32,
+    text: &'a [u8],
+) -> Result<(u64, &'a [u8]), SheetFault>
     ensures { λ r. ⌜ line-read itself r ≡ domax-line product line (now (text .entry)) ⌝ }
 {
     let (domax, rest) = keyed_number(line, after_domax(text))?;

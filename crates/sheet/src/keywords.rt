@@ -57,7 +57,18 @@ pub(crate) fn after_observed<'a>(text: &'a [u8]) -> Option<&'a [u8]>
     ensures { λ r. ⌜ rest-read r ≡ after (codes "Obs_Stat;") (now (text .entry)) ⌝ }
 {
     match text {
-        [b'O', b'b', b's', b'_', b'S', b't', b'a', b't', b';', rest @ ..] => Some(rest),
+        [
+            b'O',
+            b'b',
+            b's',
+            b'_',
+            b'S',
+            b't',
+            b'a',
+            b't',
+            b';',
+            rest @ ..,
+        ] => Some(rest),
         _ => None,
     }
 }

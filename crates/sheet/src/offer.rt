@@ -75,7 +75,10 @@ impl PerRange {
         for (range, value) in values.iter().enumerate() {
             numbers[range] = *value as u32;
         }
-        PerRange { numbers, count: values.len() }
+        PerRange {
+            numbers,
+            count: values.len(),
+        }
     }
 
     /// All of them.
