@@ -48,3 +48,8 @@ chain-none (k ∷ ks) ls (b ∷ bs) e = go (eqb b k) e (chain-none ks ls bs)
     go : (t : Bool) → None ≡ cond t (after ks bs) None → (None ≡ after ks bs → None ≡ after (ks ++ ls) bs) → None ≡ cond t (after (ks ++ ls) bs) None
     go true h again = again h
     go false h again = refl
+
+-- the first byte, and then the rest
+pub first-and-rest : (byte : ℕ) (text : List ℕ) → 1 ≤ length text → getD text 0 0 ≡ byte → text ≡ byte ∷ take (length text - 1) (drop 1 text)
+first-and-rest byte [] le e = absurd (omega arith)
+first-and-rest byte (b ∷ bs) le e = rw (take-rest (b ∷ bs) 1, e) refl

@@ -6,4 +6,5 @@ pub mod FormKeeps
 pub mod Fields
 pub mod Keywords
 pub mod Numerals
+pub mod Prices
 pub mod Runs

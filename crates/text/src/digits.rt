@@ -1,11 +1,13 @@
 //! Digits at the front of a text, and the number that they write.
 ghost use mathlib.Core.Bool.{true};
 ghost use mathlib.Core.Path.{_≡_};
-ghost use Prim.Native.Nat.{ℕ, _^_, _<_, _≤_};
+ghost use Prim.Native.Nat.{_≤_};
 ghost use lib.ListN.{length};
-ghost use Rattle.std.specs.shelf.Lists.{All, leading};
-ghost use Rattle.text.specs.Form.{digit, needless-zero, run, value as value-of};
-ghost use Rattle.text.specs.Tokens.{part-read};
+ghost use Rattle.std.specs.shelf.Lists.{All};
+ghost use Rattle.text.specs.Form.{digit, needless-zero, run as run-of, value as value-of};
+ghost use Rattle.text.specs.Tokens.{If-some, Part, part-read};
+use crate::run::Bytes;
+use crate::run::run;
 
 /// Whether a byte is one of the digits 0 to 9.
 pub fn is_digit(byte: u8) -> bool
@@ -14,31 +16,23 @@ pub fn is_digit(byte: u8) -> bool
     matches!(byte as char, '0'..='9')
 }
 
-/// How many digits stand at the front.
-fn leading_digits(text: &[u8]) -> usize
-    ensures count { λ r. ⌜ r ≡ leading digit (now (text .entry)) ⌝ }
-    ensures within { λ r. ⌜ r ≤ length (now (text .entry)) ⌝ }
-{
-    for (n, byte) in text.iter().enumerate() {
-        if !is_digit(*byte) {
-            return n;
-        }
+/// The digits 0 to 9.
+struct Decimal;
+
+impl Bytes for Decimal as DecimalBytes {
+    ghost kind = { digit };
+
+    fn has(byte: u8) -> bool {
+        is_digit(byte)
     }
-    text.len()
 }
 
 /// The digits at the front, if they are at least one and not more than `most`, and what follows them.
 pub(crate) fn digits<'a>(text: &'a [u8], most: usize) -> Option<(&'a [u8], &'a [u8])>
-    ensures { λ r. ⌜ part-read r ≡ run digit 1 most (now (text .entry)) ⌝ }
+    ensures read { λ r. ⌜ part-read r ≡ run-of digit 1 most (now (text .entry)) ⌝ }
+    ensures part { λ r. ⌜ If-some r (λ p. Part digit 1 most (now (text .entry)) (now (p .0)) (now (p .1))) ⌝ }
 {
-    let n = leading_digits(text);
-    if n < 1 {
-        return None;
-    }
-    if n > most {
-        return None;
-    }
-    Some((&text[0..n], &text[n..]))
+    run::<Decimal>(text, most)
 }
 
 /// Whether digits begin with a zero that they could do without.

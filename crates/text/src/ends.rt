@@ -2,11 +2,12 @@
 ghost use mathlib.Core.List.{[], _∷_};
 ghost use mathlib.Core.Path.{_≡_};
 ghost use Rattle.text.specs.Form.{after};
-ghost use Rattle.text.specs.Tokens.{rest-read};
+ghost use Rattle.text.specs.Tokens.{If-some, rest-read};
 
 /// What follows the semicolon that ends a field.
 pub fn field_end<'a>(text: &'a [u8]) -> Option<&'a [u8]>
-    ensures { λ r. ⌜ rest-read r ≡ after (59 ∷ []) (now (text .entry)) ⌝ }
+    ensures read { λ r. ⌜ rest-read r ≡ after (59 ∷ []) (now (text .entry)) ⌝ }
+    ensures stands { λ r. ⌜ If-some r (λ rest. now (text .entry) ≡ 59 ∷ now rest) ⌝ }
 {
     match text {
         [] => None,
@@ -19,7 +20,8 @@ pub fn field_end<'a>(text: &'a [u8]) -> Option<&'a [u8]>
 
 /// What follows the line feed that ends a line.
 pub fn line_end<'a>(text: &'a [u8]) -> Option<&'a [u8]>
-    ensures { λ r. ⌜ rest-read r ≡ after (10 ∷ []) (now (text .entry)) ⌝ }
+    ensures read { λ r. ⌜ rest-read r ≡ after (10 ∷ []) (now (text .entry)) ⌝ }
+    ensures stands { λ r. ⌜ If-some r (λ rest. now (text .entry) ≡ 10 ∷ now rest) ⌝ }
 {
     match text {
         [] => None,

@@ -1,4 +1,5 @@
 //! Whole numbers.
+ghost use mathlib.Core.List.{_∷_};
 ghost use mathlib.Core.Path.{_≡_};
 ghost use Prim.Native.Nat.{_≤_};
 ghost use Rattle.text.specs.Form.{ended, field, number-up-to, whole as whole-of};
@@ -24,7 +25,7 @@ pub struct Number<'a> {
 pub(crate) fn number_up_to<'a>(most: usize, text: &'a [u8]) -> Option<(Number<'a>, &'a [u8])>
     requires { ⌜ most ≤ 10 ⌝ }
     ensures read { λ r. ⌜ number-read r ≡ number-up-to most (now (text .entry)) ⌝ }
-    ensures token { λ r. ⌜ If-some r (λ p. Number-at most (now (text .entry)) (p .0)) ⌝ }
+    ensures token { λ r. ⌜ If-some r (λ p. Number-at most (now (text .entry)) (p .0) (now (p .1))) ⌝ }
 {
     let (digits, rest) = digits(text, most)?;
     if needless_zero(digits) {
@@ -42,7 +43,7 @@ pub(crate) fn number_up_to<'a>(most: usize, text: &'a [u8]) -> Option<(Number<'a
 /// The whole number at the front, and what follows it.
 pub fn whole<'a>(text: &'a [u8]) -> Option<(Number<'a>, &'a [u8])>
     ensures read { λ r. ⌜ number-read r ≡ whole-of (now (text .entry)) ⌝ }
-    ensures token { λ r. ⌜ If-some r (λ p. Number-at 10 (now (text .entry)) (p .0)) ⌝ }
+    ensures token { λ r. ⌜ If-some r (λ p. Number-at 10 (now (text .entry)) (p .0) (now (p .1))) ⌝ }
 {
     number_up_to(WHOLE_DIGITS, text)
 }
@@ -50,7 +51,7 @@ pub fn whole<'a>(text: &'a [u8]) -> Option<(Number<'a>, &'a [u8])>
 /// The whole number at the front with the semicolon that ends its field, and what follows them.
 pub fn number_field<'a>(text: &'a [u8]) -> Option<(Number<'a>, &'a [u8])>
     ensures read { λ r. ⌜ number-read r ≡ field whole-of (now (text .entry)) ⌝ }
-    ensures token { λ r. ⌜ If-some r (λ p. Number-at 10 (now (text .entry)) (p .0)) ⌝ }
+    ensures token { λ r. ⌜ If-some r (λ p. Number-at 10 (now (text .entry)) (p .0) (59 ∷ now (p .1))) ⌝ }
 {
     let (number, rest) = whole(text)?;
     Some((number, field_end(rest)?))
@@ -59,7 +60,7 @@ pub fn number_field<'a>(text: &'a [u8]) -> Option<(Number<'a>, &'a [u8])>
 /// The whole number that is the last field of its line, with the line feed after it, and what follows them.
 pub fn closing_number<'a>(text: &'a [u8]) -> Option<(Number<'a>, &'a [u8])>
     ensures read { λ r. ⌜ number-read r ≡ ended 10 (field whole-of) (now (text .entry)) ⌝ }
-    ensures token { λ r. ⌜ If-some r (λ p. Number-at 10 (now (text .entry)) (p .0)) ⌝ }
+    ensures token { λ r. ⌜ If-some r (λ p. Number-at 10 (now (text .entry)) (p .0) (59 ∷ 10 ∷ now (p .1))) ⌝ }
 {
     let (number, rest) = number_field(text)?;
     Some((number, line_end(rest)?))
