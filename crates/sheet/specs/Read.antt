@@ -7,8 +7,9 @@ use Rattle.std.specs.declared.result.Result.the-variants.{Ok, Err}
 use Rattle.std.specs.declared.option.Option.{Option}
 use Rattle.text.specs.Form.{_>>=_, ended, field, whole}
 use Rattle.sheet.specs.declared.fault.SheetFault.{SheetFault}
+use Rattle.sheet.specs.declared.head.Head.{Head as Kept-head}
 use Rattle.sheet.specs.declared.shape.Shape.{Shape as Kept-shape}
-use Rattle.sheet.specs.Sheet.{Shape}
+use Rattle.sheet.specs.Sheet.{Head, Shape}
 
 -- what a line says, and the text after it
 abbrev pub line-read : {X Y : Type 0} → (X → Y) → Result (X × RefT (List ℕ)) SheetFault → Result (Y × List ℕ) SheetFault
@@ -21,3 +22,11 @@ number-after keyword = keyword >>= ended 10 (field whole)
 
 abbrev pub shape-says : Kept-shape → Shape
 shape-says s = record { ranges = s .ranges; periods = s .periods; blocks = s .blocks }
+
+-- a name and a number, and the text after their line
+abbrev pub identifier-read : Result (RefT (List ℕ) × ℕ × RefT (List ℕ)) SheetFault → Result ((List ℕ × ℕ) × List ℕ) SheetFault
+identifier-read (Err f) = Err f
+identifier-read (Ok (name, number, rest)) = Ok ((name .now, number), rest .now)
+
+abbrev pub head-says : Kept-head → Head
+head-says h = record { name = h .name .now; number = h .number; floor = h .floor; product = h .product; observed = h .observed; short = h .short }
