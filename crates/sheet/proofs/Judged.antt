@@ -11,7 +11,7 @@ use Rattle.std.proofs.shelf.Lists.{drop-more, drop-all, length-drop}
 use Rattle.std.proofs.shelf.Tests.{and-parts, le-leb}
 use Rattle.std.specs.shelf.Lists.{All}
 use Rattle.text.proofs.FormKeeps.{within-from}
-use Rattle.sheet.specs.Limits.{widest}
+use Rattle.sheet.specs.Limits.{widest, highest-price}
 use Rattle.sheet.proofs.Each.{all-from-every}
 use Rattle.text.specs.Form.{between}
 use Rattle.sheet.specs.Offer.{total}
@@ -74,3 +74,6 @@ widths-small floor ws h =
     let first = and-parts (every (between 1 widest) ws && eqb (getD ws 0 0) floor) (leb (total ws) widest) h .0 in
     let each = and-parts (every (between 1 widest) ws) (eqb (getD ws 0 0) floor) first .0 in
     all-from-every (between 1 widest) (λ w. w < 2 ^ 32) (λ w t. let most = within-from 1 widest w t in omega arith) ws each
+
+pub prices-small : (ps : List ℕ) → every (between 0 highest-price) ps ≡ true → All (λ p. p < 2 ^ 32) ps
+prices-small ps h = all-from-every (between 0 highest-price) (λ p. p < 2 ^ 32) (λ p t. let most = within-from 0 highest-price p t in omega arith) ps h

@@ -8,4 +8,5 @@ mod Kept
 mod Puts
 mod Rows
 mod Judged
+mod Placed
 mod Examples

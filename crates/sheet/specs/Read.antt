@@ -1,7 +1,9 @@
 -- What the readers of a sheet answer, by its meaning. Assumes nothing.
-use mathlib.Core.List.{List}
+use mathlib.Core.List.{List, map}
 use Prim.Native.Nat.{ℕ}
 use denote.Ref.{RefT}
+use lib.ListN.{length}
+use Rattle.std.specs.Iters.{counting}
 use Rattle.std.specs.declared.result.Result.{Result}
 use Rattle.std.specs.declared.result.Result.the-variants.{Ok, Err}
 use Rattle.std.specs.declared.option.Option.{Option}
@@ -9,7 +11,8 @@ use Rattle.text.specs.Form.{_>>=_, ended, field, whole}
 use Rattle.sheet.specs.declared.fault.SheetFault.{SheetFault}
 use Rattle.sheet.specs.declared.head.Head.{Head as Kept-head}
 use Rattle.sheet.specs.declared.shape.Shape.{Shape as Kept-shape}
-use Rattle.sheet.specs.Sheet.{Head, Shape}
+use Rattle.sheet.specs.Limits.{most-periods}
+use Rattle.sheet.specs.Sheet.{_>>=_ as _>>>=_, Line, Head, Shape, price-lines, row-of}
 
 -- what a line says, and the text after it
 abbrev pub line-read : {X Y : Type 0} → (X → Y) → Result (X × RefT (List ℕ)) SheetFault → Result (Y × List ℕ) SheetFault
@@ -30,3 +33,7 @@ identifier-read (Ok (name, number, rest)) = Ok ((name .now, number), rest .now)
 
 abbrev pub head-says : Kept-head → Head
 head-says h = record { name = h .name .now; number = h .number; floor = h .floor; product = h .product; observed = h .observed; short = h .short }
+
+-- the lines of prices for these periods: the row of each period of the longest month
+abbrev pub month-rows : (n : ℕ) → (periods : List ℕ) → Line (List (Option (List ℕ)))
+month-rows n periods l text = price-lines n (length periods) l text >>>= (λ p. Ok (map (row-of periods (p .0)) (counting 1 most-periods), p .1))

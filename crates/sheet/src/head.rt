@@ -138,5 +138,15 @@ pub(crate) fn read_head<'a>(before: u32, text: &'a [u8]) -> Result<(Head<'a>, &'
     if observed && short {
         return Err(SheetFault::Marks(before + 6));
     }
-    Ok((Head { name, number, floor, product, observed, short }, rest))
+    Ok((
+        Head {
+            name,
+            number,
+            floor,
+            product,
+            observed,
+            short,
+        },
+        rest,
+    ))
 }

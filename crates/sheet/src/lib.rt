@@ -4,6 +4,7 @@ mod head;
 mod keywords;
 mod laws;
 mod offer;
+mod prices;
 mod product;
 mod save;
 mod shape;

@@ -53,6 +53,21 @@ pub struct Offer {
 }
 
 impl Name {
+    /// A copy of these bytes.
+    pub(crate) fn of(bytes: &[u8]) -> Name
+        requires { ⌜ length (now bytes) ≤ longest-name ⌝ }
+        ensures { λ r. ⌜ name-of r ≡ now (bytes .entry) ⌝ }
+    {
+        let mut copied = [0; LONGEST_NAME];
+        for (i, byte) in bytes.iter().enumerate() {
+            copied[i] = *byte;
+        }
+        Name {
+            bytes: copied,
+            length: bytes.len(),
+        }
+    }
+
     /// Its bytes.
     pub fn as_slice(&self) -> &[u8]
         ensures bytes { λ r. ⌜ now r ≡ name-of (now (self .entry)) ⌝ }
