@@ -1,9 +1,13 @@
 -- What the readers of a sheet answer, by its meaning. Assumes nothing.
+use mathlib.Core.Path.{_≡_}
+use mathlib.Core.Bool.{true}
 use mathlib.Core.List.{List, map}
-use Prim.Native.Nat.{ℕ}
+use Prim.Native.Nat.{ℕ, _≤_}
 use denote.Ref.{RefT}
+use lib.Dec.{ltb}
 use lib.ListN.{length}
 use Rattle.std.specs.Iters.{counting}
+use Rattle.std.specs.shelf.Lists.{All}
 use Rattle.std.specs.declared.result.Result.{Result}
 use Rattle.std.specs.declared.result.Result.the-variants.{Ok, Err}
 use Rattle.std.specs.declared.option.Option.{Option}
@@ -12,7 +16,7 @@ use Rattle.sheet.specs.declared.fault.SheetFault.{SheetFault}
 use Rattle.sheet.specs.declared.head.Head.{Head as Kept-head}
 use Rattle.sheet.specs.declared.shape.Shape.{Shape as Kept-shape}
 use Rattle.sheet.specs.Limits.{most-periods}
-use Rattle.sheet.specs.Sheet.{_>>=_ as _>>>=_, Line, Head, Shape, price-lines, row-of}
+use Rattle.sheet.specs.Sheet.{_>>=_ as _>>>=_, Line, chain, Head, Shape, price-lines, row-of}
 
 -- what a line says, and the text after it
 abbrev pub line-read : {X Y : Type 0} → (X → Y) → Result (X × RefT (List ℕ)) SheetFault → Result (Y × List ℕ) SheetFault
@@ -37,3 +41,9 @@ head-says h = record { name = h .name .now; number = h .number; floor = h .floor
 -- the lines of prices for these periods: the row of each period of the longest month
 abbrev pub month-rows : (n : ℕ) → (periods : List ℕ) → Line (List (Option (List ℕ)))
 month-rows n periods l text = price-lines n (length periods) l text >>>= (λ p. Ok (map (row-of periods (p .0)) (counting 1 most-periods), p .1))
+
+-- so many rising periods of a month of T periods
+pub record In-month (T count : ℕ) (periods : List ℕ) : Type 0 where
+  pub long : length periods ≡ count
+  pub each : All (λ p. (1 ≤ p) × (p ≤ T)) periods
+  pub rising : chain ltb periods ≡ true

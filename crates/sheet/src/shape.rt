@@ -1,11 +1,13 @@
 //! Lines 7 to 9 of a sheet: how many ranges, periods and blocks there are, the ranges' widths, and the periods.
+ghost use mathlib.Core.Bool.{true};
 ghost use mathlib.Core.Path.{_≡_};
 ghost use Prim.Native.Nat.{_^_, _<_, _≤_};
 ghost use lib.ListN.{length};
+ghost use Rattle.std.specs.Vec.{made};
 ghost use Rattle.std.specs.shelf.Lists.{All};
 ghost use Rattle.sheet.specs.Facts.{numbers-of};
 ghost use Rattle.sheet.specs.Limits.{most-periods, most-ranges};
-ghost use Rattle.sheet.specs.Read.{line-read, shape-says};
+ghost use Rattle.sheet.specs.Read.{In-month, line-read, shape-says};
 ghost use Rattle.sheet.specs.Sheet.{period-line, shape-fits, shape-line, width-line, widths-fit};
 ghost use Rattle.text.specs.Lines.{values-of};
 use crate::fault::SheetFault;
@@ -31,7 +33,8 @@ pub(crate) struct Shape {
 impl Shape {
     /// Whether each count is in its range, in a month of so many periods.
     fn fits(self, month: u64) -> bool
-        ensures { λ r. ⌜ r ≡ shape-fits month (shape-says self) ⌝ }
+        ensures value { λ r. ⌜ r ≡ shape-fits month (shape-says self) ⌝ }
+        ensures fits { λ r. ⌜ (r ≡ true → (1 ≤ self .ranges) × (self .ranges ≤ most-ranges) × (self .periods ≤ month)) ⌝ }
     {
         if self.ranges < 1 || self.ranges > MOST_RANGES as u64 {
             return false;
@@ -49,7 +52,8 @@ pub(crate) fn read_shape<'a>(
     line: u32,
     text: &'a [u8],
 ) -> Result<(Shape, &'a [u8]), SheetFault>
-    ensures { λ r. ⌜ line-read shape-says r ≡ shape-line month line (now (text .entry)) ⌝ }
+    ensures says { λ r. ⌜ line-read shape-says r ≡ shape-line month line (now (text .entry)) ⌝ }
+    ensures fits { λ r. ⌜ made r (λ p. (1 ≤ p .0 .ranges) × (p .0 .ranges ≤ most-ranges) × (p .0 .periods ≤ month)) ⌝ }
 {
     let (counts, rest) = number_line(text, 3).ok_or(SheetFault::Form(line))?;
     let [ranges, periods, blocks] = counts.as_slice() else {
@@ -112,7 +116,8 @@ pub(crate) fn read_periods<'a>(
     text: &'a [u8],
 ) -> Result<(Values, &'a [u8]), SheetFault>
     requires { ⌜ count ≤ most-periods ⌝ }
-    ensures { λ r. ⌜ line-read values-of r ≡ period-line month count line (now (text .entry)) ⌝ }
+    ensures says { λ r. ⌜ line-read values-of r ≡ period-line month count line (now (text .entry)) ⌝ }
+    ensures fits { λ r. ⌜ made r (λ p. In-month month count (values-of (p .0))) ⌝ }
 {
     let (values, rest) = number_line(text, count).ok_or(SheetFault::Form(line))?;
     let periods = values.as_slice();
