@@ -6,6 +6,7 @@ mod laws;
 mod offer;
 mod prices;
 mod product;
+mod read;
 mod save;
 mod shape;
 mod values;
