@@ -1,7 +1,7 @@
 mod Each
 mod Short
 mod Periods
-mod Lines
+mod LinesBack
 mod Saves
 mod SheetKeeps
 mod Kept
@@ -9,4 +9,5 @@ mod Puts
 mod Rows
 mod Judged
 mod Placed
+mod ByMonth
 mod Examples

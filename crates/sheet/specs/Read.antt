@@ -54,19 +54,26 @@ pub record In-month (T count : ℕ) (periods : List ℕ) : Type 0 where
 -- the offer of these lines, with the row of each period of the longest month, of which a month of T periods takes the first
 abbrev pub by-month : (T : ℕ) → Head → (widths : List ℕ) → List (Option (List ℕ)) → Option ℕ → Offer
 by-month T h widths table block = record {
-  name = h .name; number = h .number; floor = h .floor; product = h .product; observed = h .observed; short = h .short;
-  widths = widths; rows = take T table; block = block;
+  name = h .name;
+  number = h .number;
+  floor = h .floor;
+  product = h .product;
+  observed = h .observed;
+  short = h .short;
+  widths = widths;
+  rows = take T table;
+  block = block;
 }
 
 abbrev pub read-by-month : (T before : ℕ) → List ℕ → Result (Offer × List ℕ) SheetFault
 read-by-month T before text =
-  head before text >>>= λ p.
-  shape-line T (before + 7) (p .1) >>>= λ q.
-  width-line (q .0 .ranges) (p .0 .floor) (before + 8) (q .1) >>>= λ w.
-  period-line T (q .0 .periods) (before + 9) (w .1) >>>= λ t.
-  month-rows (q .0 .ranges) (t .0) (before + 10) (t .1) >>>= λ m.
-  block-line (q .0 .blocks) (before + 10 + q .0 .periods) (m .1) >>>= λ b.
-  Ok (by-month T (p .0) (w .0) (m .0) (b .0), b .1)
+    head before text >>>= λ p.
+    shape-line T (before + 7) (p .1) >>>= λ q.
+    width-line (q .0 .ranges) (p .0 .floor) (before + 8) (q .1) >>>= λ w.
+    period-line T (q .0 .periods) (before + 9) (w .1) >>>= λ t.
+    month-rows (q .0 .ranges) (t .0) (before + 10) (t .1) >>>= λ m.
+    block-line (q .0 .blocks) (before + 10 + q .0 .periods) (m .1) >>>= λ b.
+    Ok (by-month T (p .0) (w .0) (m .0) (b .0), b .1)
 
 -- a month has at most 11 periods: more are taken for 11
 abbrev pub month-of : (periods : ℕ) → ℕ

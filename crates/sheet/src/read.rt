@@ -5,7 +5,8 @@ ghost use Prim.Native.Nat.{_≤_};
 ghost use lib.ListN.{length};
 ghost use Rattle.sheet.specs.Facts.{facts, numbers-of, row-facts};
 ghost use Rattle.sheet.specs.Limits.{longest-name, most-periods};
-ghost use Rattle.sheet.specs.Read.{by-month, head-says, line-read, read-by-month};
+ghost use Rattle.sheet.specs.Read.{alone-read, by-month, head-says, line-read, month-of, read-by-month};
+ghost use Rattle.sheet.specs.Sheet.{read, read-alone};
 use crate::fault::SheetFault;
 use crate::head::Head;
 use crate::head::read_head;
@@ -20,7 +21,13 @@ use crate::shape::read_shape;
 use crate::shape::read_widths;
 
 /// The offer that these lines make, in a month of so many periods.
-fn offer_of(head: Head, widths: PerRange, rows: [Option<PerRange>; MOST_PERIODS], periods: usize, block: Option<u32>) -> Offer
+fn offer_of(
+    head: Head,
+    widths: PerRange,
+    rows: [Option<PerRange>; MOST_PERIODS],
+    periods: usize,
+    block: Option<u32>,
+) -> Offer
     requires { ⌜ length (now (head .name)) ≤ longest-name ⌝ }
     ensures { λ r. ⌜ facts r ≡ by-month periods (head-says (head .entry)) (numbers-of widths) (map row-facts rows) block ⌝ }
 {
@@ -39,7 +46,11 @@ fn offer_of(head: Head, widths: PerRange, rows: [Option<PerRange>; MOST_PERIODS]
 }
 
 /// The lines of a sheet, each judged before the next is read.
-fn read_lines<'a>(periods: usize, before: u32, text: &'a [u8]) -> Result<(Offer, &'a [u8]), SheetFault>
+fn read_lines<'a>(
+    periods: usize,
+    before: u32,
+    text: &'a [u8],
+) -> Result<(Offer, &'a [u8]), SheetFault>
     requires few { ⌜ periods ≤ most-periods ⌝ }
     requires near { ⌜ before ≤ 65535 ⌝ }
     ensures { λ r. ⌜ line-read facts r ≡ read-by-month periods before (now (text .entry)) ⌝ }
@@ -52,4 +63,27 @@ fn read_lines<'a>(periods: usize, before: u32, text: &'a [u8]) -> Result<(Offer,
     let (rows, rest) = read_rows(ranges, priced.as_slice(), before + 10, rest)?;
     let (block, rest) = read_block(shape.blocks, before + 10 + shape.periods as u32, rest)?;
     Ok((offer_of(head, widths, rows, periods, block), rest))
+}
+
+/// Reads the sheet at the front of a text, in a month of so many periods and with so many lines before it, and tells what
+/// follows it. A month has at most 11 periods: more are taken for 11.
+pub fn read_sheet<'a>(
+    periods: usize,
+    lines_before: u16,
+    text: &'a [u8],
+) -> Result<(Offer, &'a [u8]), SheetFault>
+    ensures { λ r. ⌜ line-read facts r ≡ read (month-of periods) «lines_before» (now (text .entry)) ⌝ }
+{
+    read_lines(periods.min(MOST_PERIODS), u32::from(lines_before), text)
+}
+
+/// Reads a text that is one sheet and nothing else.
+pub fn read_alone(periods: usize, text: &[u8]) -> Result<Offer, SheetFault>
+    ensures { λ r. ⌜ alone-read r ≡ read-alone (month-of periods) (now (text .entry)) ⌝ }
+{
+    let (offer, rest) = read_sheet(periods, 0, text)?;
+    if !rest.is_empty() {
+        return Err(SheetFault::Form(offer.lines() + 1));
+    }
+    Ok(offer)
 }
