@@ -15,16 +15,17 @@ use Rattle.std.specs.declared.option.Option.{Option}
 use Rattle.std.specs.declared.option.Option.the-variants.{Some}
 use Rattle.std.specs.declared.result.Result.the-variants.{Ok}
 use Rattle.text.specs.Laws.{Named}
-use Rattle.text.proofs.Alls.{all-weaker}
+use Rattle.std.proofs.shelf.Elements.{all-weaker}
 use Rattle.sheet.specs.declared.fault.SheetFault.{SheetFault}
 use Rattle.sheet.specs.declared.fault.SheetFault.the-variants.{Marks}
 use Rattle.sheet.specs.Limits.{highest-number, lowest-floor, highest-floor, most-ranges, most-periods}
 use Rattle.sheet.specs.Offer.{Offer}
 use Rattle.sheet.specs.Sheet.{identifier-line, floor-line, product-line, domax-line, mark-line, Head, head, Shape, shape-line, width-line, period-line, price-lines, block-line, row-of, offer-of, priced, read, read-alone}
+use Rattle.sheet.specs.Read.{In-month}
 use Rattle.sheet.specs.Saved.{written, Row-fits, Block-fits, Fits, On-sheet, saved-as, Read-saves-back, Save-says-the-same, Save-settles}
 use Rattle.sheet.proofs.Periods.{Within, priced-count, row-of-each, all-found}
 use Rattle.sheet.proofs.Saves.{saved-reads-back}
-use Rattle.sheet.proofs.SheetKeeps.{ok-from, ok-case, must-case, must-from, ok-same, Shape-fits, Widths-fit, Periods-fit, identifier-keeps, floor-keeps, shape-keeps, widths-keep, periods-keep, rows-keep, block-keeps}
+use Rattle.sheet.proofs.SheetKeeps.{ok-from, ok-case, must-case, must-from, ok-same, Shape-fits, Widths-fit, identifier-keeps, floor-keeps, shape-keeps, widths-keep, periods-keep, rows-keep, block-keeps}
 
 in-month : (T : ℕ) (ps : List ℕ) → All (λ p. (1 ≤ p) × (p ≤ T)) ps → Within 1 T ps
 in-month T = all-weaker (λ p. (1 ≤ p) × (p ≤ T)) (λ p. (1 ≤ p) × (p < 1 + T)) (λ p g. (g .0, omega arith))
@@ -50,11 +51,11 @@ head-keeps before text s h =
     subst (λ p. Head-fits (p .0)) (ok-same {F = SheetFault} (is, p6 .1) s h7) fits)))))))
 
 -- lines that keep their limits make an offer that keeps them
-offer-keeps : (T : ℕ) (h : Head) (s : Shape) (widths periods : List ℕ) (rows : List (List ℕ)) (block : Option ℕ) → Head-fits h → Shape-fits T s → Widths-fit (s .ranges) (h .floor) widths → Periods-fit T (s .periods) periods → (length rows ≡ s .periods) × All (λ row. Row-fits (s .ranges) (Some row)) rows → Block-fits T (s .periods) block → On-sheet T (offer-of T h widths periods rows block)
+offer-keeps : (T : ℕ) (h : Head) (s : Shape) (widths periods : List ℕ) (rows : List (List ℕ)) (block : Option ℕ) → Head-fits h → Shape-fits T s → Widths-fit (s .ranges) (h .floor) widths → In-month T (s .periods) periods → (length rows ≡ s .periods) × All (λ row. Row-fits (s .ranges) (Some row)) rows → Block-fits T (s .periods) block → On-sheet T (offer-of T h widths periods rows block)
 offer-keeps T h s widths periods rows block who shape wide ps qs blocks =
     let found = map (row-of periods rows) (counting 1 T) in
-    let long : length rows ≡ length periods = qs .0 ∙ sym (ps .count) in
-    let count : length (priced 1 found) ≡ s .periods = priced-count 1 T periods rows long (ps .rising) (in-month T periods (ps .each)) ∙ ps .count in
+    let long : length rows ≡ length periods = qs .0 ∙ sym (ps .long) in
+    let count : length (priced 1 found) ≡ s .periods = priced-count 1 T periods rows long (ps .rising) (in-month T periods (ps .each)) ∙ ps .long in
     let fit : (t : ℕ) → Row-fits (s .ranges) (row-of periods rows t) = λ t. row-of-each (Row-fits (s .ranges)) tt periods rows t (qs .1) in
     let fits : Fits T (offer-of T h widths periods rows block) = record {
       name-length = (who .name .1, who .name .2);

@@ -2,10 +2,13 @@ pub mod Asked
 mod Each
 mod Short
 mod Periods
-mod Lines
+mod LinesBack
 mod Saves
 mod SheetKeeps
 mod Kept
 mod Puts
 mod Rows
+mod Judged
+mod Placed
+mod ByMonth
 mod Examples

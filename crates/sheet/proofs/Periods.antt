@@ -13,7 +13,7 @@ use Rattle.std.specs.shelf.Lists.{All}
 use Rattle.std.specs.declared.option.Option.{Option}
 use Rattle.std.specs.declared.option.Option.the-variants.{Some, None}
 use Rattle.sheet.specs.Sheet.{priced, row-of, chain}
-use Rattle.text.proofs.Alls.{all-weaker}
+use Rattle.std.proofs.shelf.Elements.{all-weaker}
 
 abbrev pub periods-of : List (ℕ × List ℕ) → List ℕ
 periods-of = map (λ p. p .0)

@@ -19,10 +19,10 @@ use Rattle.sheet.specs.Sheet.{read, priced, row-of, dmo, domax, period-line}
 use Rattle.text.specs.Written.{line-text}
 use Rattle.sheet.specs.Limits.{most-periods}
 use Rattle.sheet.specs.Saved.{mark-text, block-text, saved-lines, Row-fits, Block-fits, Saved-reads-back}
-use Rattle.text.proofs.Alls.{all-weaker}
+use Rattle.std.proofs.shelf.Elements.{all-weaker}
 use Rattle.sheet.proofs.Each.{map-twice, joined-then}
 use Rattle.sheet.proofs.Periods.{periods-of, prices-of, priced-in, priced-most, chain-priced, rows-back}
-use Rattle.sheet.proofs.Lines.{identifier-reads, floor-reads, product-reads, domax-reads, mark-reads, shape-reads, widths-read, periods-read, row-text, rows-read, block-reads}
+use Rattle.sheet.proofs.LinesBack.{identifier-reads, floor-reads, product-reads, domax-reads, mark-reads, shape-reads, widths-read, periods-read, row-text, rows-read, block-reads}
 
 -- the rows of the priced periods fit as the rows do
 pub priced-fit : (n t : ℕ) (rs : List (Option (List ℕ))) → All (Row-fits n) rs → All (λ p. Row-fits n (Some (p .1))) (priced t rs)

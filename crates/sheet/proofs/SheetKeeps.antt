@@ -20,7 +20,8 @@ use Rattle.sheet.specs.Limits.{highest-number, lowest-floor, highest-floor, mo
 use Rattle.sheet.specs.Offer.{total}
 use Rattle.sheet.specs.declared.fault.SheetFault.the-variants.{Form, Value, Order, PartMonth}
 use Rattle.text.specs.Form.{Reads, between, field, ended, whole, price, line-of, keyed, named}
-use Rattle.sheet.specs.Sheet.{_>>=_, _>>_, must, Line, line, itself, agreeing, every, chain, identifier-line, floor-line, Shape, shape-of, shape-fits, shape-line, width-line, period-line, price-line, price-lines, block-line}
+use Rattle.sheet.specs.Sheet.{_>>=_, _>>_, must, Line, line, itself, agreeing, every, chain, identifier-line, floor-line, Shape, shape-of, shape-fits, shape-line, widths-fit, width-line, period-line, price-line, price-lines, block-line}
+use Rattle.sheet.specs.Read.{In-month}
 use Rattle.sheet.specs.Saved.{Row-fits, Block-fits}
 use Rattle.sheet.proofs.Each.{all-from-every}
 use Rattle.text.proofs.FormKeeps.{within-from, line-of-from, named-from}
@@ -97,32 +98,27 @@ pub record Widths-fit (n floor : ℕ) (ws : List ℕ) : Type 0 where
 
 pub widths-keep : (n floor l : ℕ) (text : List ℕ) (s : List ℕ × List ℕ) → width-line n floor l text ≡ Ok s → Widths-fit n floor (s .0)
 widths-keep n floor l text s h =
-    let a = line-from (line-of whole n) (λ v. every (between 1 widest) v && eqb (getD v 0 0) floor && leb (total v) widest) itself l text s h in
+    let a = line-from (line-of whole n) (widths-fit floor) itself l text s h in
     let v = a .0 .0 in
     let b = and-parts (every (between 1 widest) v && eqb (getD v 0 0) floor) (leb (total v) widest) (a .2) in
     let c = and-parts (every (between 1 widest) v) (eqb (getD v 0 0) floor) (b .0) in
     let fits : Widths-fit n floor v = record { count = line-of-from whole n text (a .0) (a .1); each = all-from-every (between 1 widest) (λ w. (1 ≤ w) × (w ≤ widest)) (λ w t. within-from 1 widest w t) v (c .0); first = eqb-true (getD v 0 0) floor (c .1); all = leb-true (total v) widest (b .1) } in
     subst (Widths-fit n floor) (a .3) fits
 
-pub record Periods-fit (T m : ℕ) (ps : List ℕ) : Type 0 where
-  pub count : length ps ≡ m
-  pub each : All (λ p. (1 ≤ p) × (p ≤ T)) ps
-  pub rising : chain ltb ps ≡ true
-
-pub periods-keep : (T m l : ℕ) (text : List ℕ) (s : List ℕ × List ℕ) → period-line T m l text ≡ Ok s → Periods-fit T m (s .0)
+pub periods-keep : (T m l : ℕ) (text : List ℕ) (s : List ℕ × List ℕ) → period-line T m l text ≡ Ok s → In-month T m (s .0)
 periods-keep T m l text s h =
     let d = agreeing-from Order (chain ltb) (line (line-of whole m) (every (between 1 T)) itself) l text s h in
     let a = line-from (line-of whole m) (every (between 1 T)) itself l text s (d .0) in
     let v = a .0 .0 in
-    let fits : Periods-fit T m v = record { count = line-of-from whole m text (a .0) (a .1); each = all-from-every (between 1 T) (λ p. (1 ≤ p) × (p ≤ T)) (λ p t. within-from 1 T p t) v (a .2); rising = subst (λ w. chain ltb w ≡ true) (sym (a .3)) (d .1) } in
-    subst (Periods-fit T m) (a .3) fits
+    let fits : In-month T m v = record { long = line-of-from whole m text (a .0) (a .1); each = all-from-every (between 1 T) (λ p. (1 ≤ p) × (p ≤ T)) (λ p t. within-from 1 T p t) v (a .2); rising = subst (λ w. chain ltb w ≡ true) (sym (a .3)) (d .1) } in
+    subst (In-month T m) (a .3) fits
 
 pub prices-keep : (n l : ℕ) (text : List ℕ) (s : List ℕ × List ℕ) → price-line n l text ≡ Ok s → Row-fits n (Some (s .0))
 prices-keep n l text s h =
-    let d = agreeing-from Order (chain leb) (line (line-of price n) (every (λ p. leb p highest-price)) itself) l text s h in
-    let a = line-from (line-of price n) (every (λ p. leb p highest-price)) itself l text s (d .0) in
+    let d = agreeing-from Order (chain leb) (line (line-of price n) (every (between 0 highest-price)) itself) l text s h in
+    let a = line-from (line-of price n) (every (between 0 highest-price)) itself l text s (d .0) in
     let v = a .0 .0 in
-    let fits : Row-fits n (Some v) = (line-of-from price n text (a .0) (a .1), all-from-every (λ p. leb p highest-price) (λ p. p ≤ highest-price) (λ p t. leb-true p highest-price t) v (a .2), subst (λ w. chain leb w ≡ true) (sym (a .3)) (d .1)) in
+    let fits : Row-fits n (Some v) = (line-of-from price n text (a .0) (a .1), all-from-every (between 0 highest-price) (λ p. p ≤ highest-price) (λ p t. within-from 0 highest-price p t .1) v (a .2), subst (λ w. chain leb w ≡ true) (sym (a .3)) (d .1)) in
     subst (λ w. Row-fits n (Some w)) (a .3) fits
 
 pub rows-keep : (n m l : ℕ) (text : List ℕ) (s : List (List ℕ) × List ℕ) → price-lines n m l text ≡ Ok s → (length (s .0) ≡ m) × All (λ row. Row-fits n (Some row)) (s .0)

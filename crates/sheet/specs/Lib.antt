@@ -5,3 +5,4 @@ pub mod Sheet
 pub mod Saved
 pub mod Facts
 pub mod Writing
+pub mod Read

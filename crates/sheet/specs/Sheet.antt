@@ -125,8 +125,12 @@ shape-fits T s = between 1 most-ranges (s .ranges) && between 1 T (s .periods) &
 abbrev pub shape-line : (T : ℕ) → Line Shape
 shape-line T = agreeing PartMonth (λ s. eqb (s .blocks) 0 || eqb (s .periods) T) (line (line-of whole 3) (λ counts. shape-fits T (shape-of counts)) shape-of)
 
+-- the first range is the floor
+abbrev pub widths-fit : (floor : ℕ) → List ℕ → Bool
+widths-fit floor ws = every (between 1 widest) ws && eqb (getD ws 0 0) floor && leb (total ws) widest
+
 abbrev pub width-line : (n floor : ℕ) → Line (List ℕ)
-width-line n floor = line (line-of whole n) (λ ws. every (between 1 widest) ws && eqb (getD ws 0 0) floor && leb (total ws) widest) itself
+width-line n floor = line (line-of whole n) (widths-fit floor) itself
 
 abbrev pub period-line : (T m : ℕ) → Line (List ℕ)
 period-line T m = agreeing Order (chain ltb) (line (line-of whole m) (every (between 1 T)) itself)
@@ -134,7 +138,7 @@ period-line T m = agreeing Order (chain ltb) (line (line-of whole m) (every (bet
 -- ---- the lines of prices, and the block's
 
 abbrev pub price-line : (n : ℕ) → Line (List ℕ)
-price-line n = agreeing Order (chain leb) (line (line-of price n) (every (λ p. leb p highest-price)) itself)
+price-line n = agreeing Order (chain leb) (line (line-of price n) (every (between 0 highest-price)) itself)
 
 abbrev pub price-lines : (n m : ℕ) → Line (List (List ℕ))
 price-lines n zero l text = Ok ([], text)

@@ -1,11 +1,17 @@
 //! A sheet is one offer: what its text says, and how it is saved.
 mod fault;
+mod head;
 mod keywords;
 mod laws;
+mod lines;
 mod offer;
+mod prices;
 mod product;
 mod questions;
+mod read;
 mod save;
+mod shape;
+mod values;
 mod writing;
 
 pub use fault::SaveFault;
@@ -21,3 +27,5 @@ pub use offer::Name;
 pub use offer::Offer;
 pub use offer::PerRange;
 pub use product::Product;
+pub use read::read_alone;
+pub use read::read_sheet;

@@ -1,8 +1,9 @@
 //! One offer, kept in a place of fixed size.
 ghost use mathlib.Core.Path.{_≡_};
-ghost use Prim.Native.Nat.{_≤_};
+ghost use Prim.Native.Nat.{_^_, _<_, _≤_};
 ghost use lib.ListN.{length};
 ghost use mathlib.Core.List.{map};
+ghost use Rattle.std.specs.shelf.Lists.{All};
 ghost use Rattle.std.specs.shelf.Maps.{nth};
 ghost use Rattle.sheet.specs.Facts.{facts, name-of, numbers-of, row-facts};
 ghost use Rattle.sheet.specs.Limits.{longest-name, most-periods, most-ranges};
@@ -52,6 +53,21 @@ pub struct Offer {
 }
 
 impl Name {
+    /// A copy of these bytes.
+    pub(crate) fn of(bytes: &[u8]) -> Name
+        requires { ⌜ length (now bytes) ≤ longest-name ⌝ }
+        ensures { λ r. ⌜ name-of r ≡ now (bytes .entry) ⌝ }
+    {
+        let mut copied = [0; LONGEST_NAME];
+        for (i, byte) in bytes.iter().enumerate() {
+            copied[i] = *byte;
+        }
+        Name {
+            bytes: copied,
+            length: bytes.len(),
+        }
+    }
+
     /// Its bytes.
     pub fn as_slice(&self) -> &[u8]
         ensures bytes { λ r. ⌜ now r ≡ name-of (now (self .entry)) ⌝ }
@@ -64,6 +80,22 @@ impl Name {
 }
 
 impl PerRange {
+    /// These numbers, one for each range.
+    pub(crate) fn of(values: &[u64]) -> PerRange
+        requires few { ⌜ length (now values) ≤ most-ranges ⌝ }
+        requires small { ⌜ All (λ v. v < 2 ^ 32) (now values) ⌝ }
+        ensures { λ r. ⌜ numbers-of r ≡ now (values .entry) ⌝ }
+    {
+        let mut numbers = [0; MOST_RANGES];
+        for (range, value) in values.iter().enumerate() {
+            numbers[range] = *value as u32;
+        }
+        PerRange {
+            numbers,
+            count: values.len(),
+        }
+    }
+
     /// All of them.
     pub fn as_slice(&self) -> &[u32]
         ensures numbers { λ r. ⌜ now r ≡ numbers-of (now (self .entry)) ⌝ }

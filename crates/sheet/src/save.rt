@@ -1,5 +1,4 @@
 //! An offer saved as its sheet.
-ghost use mathlib.Core.Bool.{cond};
 ghost use mathlib.Core.List.{[], _∷_, map};
 ghost use mathlib.Core.Path.{_≡_};
 ghost use Prim.Native.Nat.{_≤_};
@@ -11,6 +10,8 @@ ghost use Rattle.sheet.specs.Saved.{block-text, buffer-after, save-answer, sav
 ghost use Rattle.sheet.specs.Sheet.{priced};
 ghost use Rattle.sheet.specs.Writing.{Put};
 use crate::fault::SaveFault;
+use crate::lines::mark;
+use crate::lines::priced_count;
 use crate::offer::Offer;
 use crate::offer::PerRange;
 use crate::writing::put_byte;
@@ -20,20 +21,6 @@ use crate::writing::put_number_field;
 use crate::writing::put_number_line;
 use crate::writing::put_price_field;
 use crate::writing::put_price_line;
-
-/// How many periods are priced.
-fn priced_count(rows: &[Option<PerRange>]) -> u32
-    requires { ⌜ length (now rows) ≤ 11 ⌝ }
-    ensures { λ r. ⌜ r ≡ length (priced 1 (map row-facts (now (rows .entry)))) ⌝ }
-{
-    let mut count = 0;
-    for row in rows {
-        if row.is_some() {
-            count += 1;
-        }
-    }
-    count
-}
 
 /// Puts the line of the priced periods.
 fn put_period_line(buffer: &mut [u8], at: usize, rows: &[Option<PerRange>]) -> usize
@@ -65,13 +52,6 @@ fn put_rows(buffer: &mut [u8], at: usize, rows: &[Option<PerRange>]) -> usize
         }
     }
     next
-}
-
-/// A mark as its line has it.
-fn mark(is: bool) -> u32
-    ensures { λ r. ⌜ r ≡ cond is 1 0 ⌝ }
-{
-    if is { 1 } else { 0 }
 }
 
 /// Puts the line of name and number.

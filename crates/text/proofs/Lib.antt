@@ -1,4 +1,3 @@
-pub mod Alls
 pub mod Fields
 pub mod FieldsBack
 pub mod FormKeeps

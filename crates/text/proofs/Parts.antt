@@ -6,7 +6,7 @@ use Rattle.std.specs.Written.{decimal}
 use Rattle.text.specs.Form.{whole, price, keyed}
 use Rattle.text.specs.Written.{price-text, line-text}
 use Rattle.text.specs.Laws.{Number-reads-back, Price-reads-back, Name-reads-back, Numbers-read-back, Prices-read-back, Keyed-reads-back, Named-reads-back}
-use Rattle.text.proofs.Alls.{all-weaker}
+use Rattle.std.proofs.shelf.Elements.{all-weaker}
 use Rattle.text.proofs.NumbersBack.{number-reads, price-reads, name-reads}
 use Rattle.text.proofs.FieldsBack.{Reads-back, line-of-reads, whole-back, price-back, keyed-reads, named-reads}
 

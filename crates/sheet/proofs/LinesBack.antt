@@ -21,10 +21,10 @@ use Rattle.sheet.specs.Offer.{total}
 use Rattle.text.specs.Form.{Reads, between, whole, price, letter-or-digit, ended, field, line-of, keyed, named}
 use Rattle.sheet.specs.declared.fault.SheetFault.{SheetFault}
 use Rattle.sheet.specs.declared.fault.SheetFault.the-variants.{Order, PartMonth}
-use Rattle.sheet.specs.Sheet.{Line, line, itself, agreeing, every, chain, identifier-line, floor-line, product-line, dmo, domax, domax-line, mark-line, Shape, shape-of, shape-fits, shape-line, width-line, period-line, price-line, price-lines, block-line}
+use Rattle.sheet.specs.Sheet.{Line, line, itself, agreeing, every, chain, identifier-line, floor-line, product-line, dmo, domax, domax-line, mark-line, Shape, shape-of, shape-fits, shape-line, widths-fit, width-line, period-line, price-line, price-lines, block-line}
 use Rattle.text.specs.Written.{price-text, line-text}
 use Rattle.sheet.specs.Saved.{mark-text, block-text, Row-fits, Block-fits}
-use Rattle.text.proofs.Alls.{all-weaker}
+use Rattle.std.proofs.shelf.Elements.{all-weaker}
 use Rattle.sheet.proofs.Each.{every-from}
 use Rattle.text.proofs.RunsBack.{within}
 use Rattle.text.proofs.FieldsBack.{one-reads, keyed-reads, named-reads, price-back}
@@ -84,7 +84,7 @@ shape-reads T l n m block rest small n1 n4 m1 mT month =
 
 pub widths-read : (l floor : ℕ) (ws rest : List ℕ) → All (λ w. (1 ≤ w) × (w ≤ widest)) ws → getD ws 0 0 ≡ floor → total ws ≤ widest → width-line (length ws) floor l (line-text (map decimal ws) ++ rest) ≡ Ok (ws, rest)
 widths-read l floor ws rest all first most =
-    line-reads (line-of whole (length ws)) (λ v. every (between 1 widest) v && eqb (getD v 0 0) floor && leb (total v) widest) itself l (line-text (map decimal ws) ++ rest) rest ws
+    line-reads (line-of whole (length ws)) (widths-fit floor) itself l (line-text (map decimal ws) ++ rest) rest ws
     (numbers-back ws rest (all-weaker (λ w. (1 ≤ w) × (w ≤ widest)) (λ n. n < 10 ^ 10) (λ n h. omega arith) ws all))
     (rw (every-from (λ w. (1 ≤ w) × (w ≤ widest)) (between 1 widest) (λ w h. within 1 widest w (h .0) (h .1)) ws all, eq-eqb (getD ws 0 0) floor first, le-leb (total ws) widest most) refl)
 
@@ -100,11 +100,11 @@ periods-read T l ps rest small all rising =
 pub prices-read : (n l : ℕ) (row rest : List ℕ) → Row-fits n (Some row) → price-line n l (line-text (map price-text row) ++ rest) ≡ Ok (row, rest)
 prices-read n l row rest fits =
     let text = line-text (map price-text row) ++ rest in
-    agreeing-reads Order (chain leb) (line (line-of price n) (every (λ p. leb p highest-price)) itself) l text rest row
-    (line-reads (line-of price n) (every (λ p. leb p highest-price)) itself l text rest row
+    agreeing-reads Order (chain leb) (line (line-of price n) (every (between 0 highest-price)) itself) l text rest row
+    (line-reads (line-of price n) (every (between 0 highest-price)) itself l text rest row
     (subst (λ k. line-of price k text ≡ Some (row, rest)) (fits .0)
     (prices-back row rest (all-weaker (λ p. p ≤ highest-price) (λ p. p < 10 ^ 9) (λ p h. omega arith) row (fits .1))))
-    (every-from (λ p. p ≤ highest-price) (λ p. leb p highest-price) (λ p h. le-leb p highest-price h) row (fits .1)))
+    (every-from (λ p. p ≤ highest-price) (between 0 highest-price) (λ p h. within 0 highest-price p (omega arith) h) row (fits .1)))
     (fits .2)
 
 abbrev pub row-text : ℕ × List ℕ → List ℕ

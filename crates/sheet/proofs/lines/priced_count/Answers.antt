@@ -7,8 +7,8 @@ use Rattle.std.proofs.shelf.Lists.{take-all}
 use Rattle.sheet.specs.Facts.{row-facts}
 use Rattle.sheet.specs.Sheet.{priced}
 use Rattle.sheet.proofs.Rows.{count-more, same-more}
-use Rattle.sheet.proofs.save.priced_count.Needs as need
-use Rattle.sheet.proofs.save.priced_count.Needs.{then-is-some, else-is-some}
+use Rattle.sheet.proofs.lines.priced_count.Needs as need
+use Rattle.sheet.proofs.lines.priced_count.Needs.{then-is-some, else-is-some}
 
 pub loop-row-again : need.loop-row-again
 loop-row-again c =
@@ -19,4 +19,4 @@ loop-row-again c =
     ]
 
 pub returns : need.returns
-returns c = c .loop-row .inv .0 ∙ ap (λ l. length (priced 1 (map row-facts l))) (take-all (c .loop-row .row-index) (c .args .rows .now) (c .loop-row-test .left))
+returns c = record { value = c .loop-row .inv .0 ∙ ap (λ l. length (priced 1 (map row-facts l))) (take-all (c .loop-row .row-index) (c .args .rows .now) (c .loop-row-test .left)); bound = omega (arith, c .loop-row .inv .1) }
