@@ -1,6 +1,12 @@
 //! Books: lists of offers under one calendar. The register is the book that a clerk keeps.
 mod fault;
+mod laws;
 mod need;
 
 pub use fault::RegisterFault;
+pub use laws::law_over_runs;
+pub use laws::limits_kept;
+pub use laws::next_answered;
+pub use laws::one_answer;
+pub use laws::one_run;
 pub use need::Need;

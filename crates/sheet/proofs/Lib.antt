@@ -1,10 +1,10 @@
-mod Each
+pub mod Each
 mod Short
 mod Periods
 mod Lines
 mod Saves
 mod SheetKeeps
-mod Kept
+pub mod Kept
 mod Puts
 mod Rows
 mod Examples
