@@ -121,6 +121,11 @@ deposits : deposited 2 0 (written b2 ++ written a1) ≡ Ok (b2 ∷ a1 ∷ [])
 unfolding digits
 deposits = refl
 
+-- two sheets in one text are no sheet
+two-sheets : entered 2 (roll []) (written b2 ++ written a1) ≡ Err (Sheet (Form 12))
+unfolding digits
+two-sheets = refl
+
 deposit-line : deposited 2 4 (written b2 ++ codes "A;1;\nseuil_minimum;9;\n") ≡ Err (Sheet (Value 17))
 unfolding digits
 deposit-line = refl

@@ -4,5 +4,8 @@ pub mod Parts
 pub mod Once
 pub mod Law
 pub mod Limited
+pub mod Longer
+pub mod Later
+pub mod Deposits
 mod Examples
 mod RunExamples

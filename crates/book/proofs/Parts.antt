@@ -70,6 +70,7 @@ module _ (T : ℕ) where
       pub offer : Offer
       pub sheet : read-alone T text ≡ Ok offer
       pub enters : Admitted (roll .offers) offer
+      pub joins : with T (roll .offers) offer ≡ Ok (after .offers)
       pub made : after ≡ record { offers = roll .offers ++ (offer ∷ []); needs = roll .needs }
 
     pub entered-parts : (text : List ℕ) (after : Roll) → entered T roll text ≡ Ok after → Entered text after
@@ -80,7 +81,8 @@ module _ (T : ℕ) where
         let w = with-parts (roll .offers) o (q .0) (q .1) in
         let e = q .2 in
         let f = w .1 in
-        record { offer = o; sheet = of-sheet-parts _ o (p .1); enters = w .0; made = cc }
+        let made : after ≡ record { offers = roll .offers ++ (o ∷ []); needs = roll .needs } = cc in
+        record { offer = o; sheet = of-sheet-parts _ o (p .1); enters = w .0; joins = q .1 ∙ ap Ok (f ∙ sym (ap (λ r. r .offers) made)); made = made }
 
     pub record Amended (text : List ℕ) (after : Roll) : Type 0 where
       pub offer : Offer

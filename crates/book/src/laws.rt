@@ -1,6 +1,7 @@
 //! The laws of a register, each the promise of a function, so that the check asks for its proof.
 ghost use mathlib.Core.List.{List};
 ghost use Prim.Native.Nat.{ℕ};
+ghost use Rattle.book.specs.Deposit.{Deposit-enters, Deposit-refuses, Deposit-breaks};
 ghost use Rattle.book.specs.Runs.{Law-over-runs, Next-answered, Limits-kept, One-run};
 ghost use Rattle.book.specs.Step.{One-answer};
 
@@ -35,6 +36,27 @@ pub fn limits_kept() -> u8
 /// A list of calls has one run: its answers and the roll that it leaves.
 pub fn one_run() -> u8
     ensures { λ _. ⌜ ((days : List ℕ) → One-run days) ⌝ }
+{
+    0
+}
+
+/// Sheets that enter a new register one by one make, in one text, a deposit with that register's list.
+pub fn deposit_enters() -> u8
+    ensures { λ _. ⌜ ((T : ℕ) → Deposit-enters T) ⌝ }
+{
+    0
+}
+
+/// After such sheets, one that would be refused for anything but its form: the deposit is refused so, whatever follows.
+pub fn deposit_refuses() -> u8
+    ensures { λ _. ⌜ ((T : ℕ) → Deposit-refuses T) ⌝ }
+{
+    0
+}
+
+/// After such sheets, a last text that cannot be read: the deposit is refused as that text is, its lines counted on.
+pub fn deposit_breaks() -> u8
+    ensures { λ _. ⌜ ((T : ℕ) → Deposit-breaks T) ⌝ }
 {
     0
 }

@@ -4,6 +4,9 @@ mod laws;
 mod need;
 
 pub use fault::RegisterFault;
+pub use laws::deposit_breaks;
+pub use laws::deposit_enters;
+pub use laws::deposit_refuses;
 pub use laws::law_over_runs;
 pub use laws::limits_kept;
 pub use laws::next_answered;

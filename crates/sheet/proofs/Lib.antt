@@ -3,7 +3,7 @@ mod Short
 mod Periods
 mod Lines
 mod Saves
-mod SheetKeeps
+pub mod SheetKeeps
 pub mod Kept
 mod Puts
 mod Rows
