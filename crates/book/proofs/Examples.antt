@@ -1,6 +1,6 @@
 -- The roll and the deposit at work, in a month of two periods.
 use mathlib.Core.Path.{_≡_, refl}
-use mathlib.Core.Bool.{false}
+use mathlib.Core.Bool.{true, false}
 use mathlib.Core.List.{List, [], _∷_, _++_, map}
 use Prim.Native.Nat.{ℕ}
 use lib.Chars.{codes}
@@ -17,6 +17,7 @@ use Rattle.sheet.specs.declared.product.Product.the-variants.{Rapid, Complement
 use Rattle.book.specs.Deposit.{deposited}
 use Rattle.book.specs.Needs.{no-need}
 use Rattle.book.specs.Roll.{Roll, with, entered, amended, withdrawn, needed, saved}
+use Rattle.book.specs.Within.{fitting, within}
 use Rattle.book.specs.declared.fault.RegisterFault.the-variants.{Sheet, Known, Unknown, Full, Pairs, Volume, Blocks, Period, Space}
 
 -- a rapid offer in both periods
@@ -114,6 +115,15 @@ volume = refl
 seventh : with 2 (numbered (codes "A") 10 1 (Some 7) 6) (plain (codes "B") 2 20 1 (Some 7)) ≡ Err Blocks
 unfolding numbered
 seventh = refl
+
+-- 32 offers of one candidate keep the limits, and the same one twice does not
+thirty-two : within (5 ∷ 2 ∷ []) (numbered (codes "A") 10 1 None 32) ≡ true
+unfolding within fitting numbered
+thirty-two = refl
+
+twice : within (5 ∷ 2 ∷ []) (a1 ∷ b2 ∷ a1 ∷ []) ≡ false
+unfolding within fitting
+twice = refl
 
 -- ---- the deposit
 

@@ -1,11 +1,11 @@
 -- Offers by name and number: what `is` says, and how many of a list it holds of.
 use mathlib.Core.Path.{_≡_, refl, sym, ap, _∙_}
 use mathlib.Core.Bool.{Bool, true, false, cond, not}
-use mathlib.Core.List.{List, [], _∷_, _++_, map}
+use mathlib.Core.List.{List, [], _∷_}
 use Prim.Native.Nat.{ℕ, _+_, _≤_}
 use native.Mathlib.Omega.{arith}
-use lib.Dec.{eqb}
-use Rattle.std.proofs.shelf.Tests.{eqb-true, eq-eqb, and-parts, and-from, both-ways}
+use Rattle.std.proofs.shelf.Equals.{sameBytes-decides}
+use Rattle.std.proofs.shelf.Tests.{both-ways}
 use Rattle.std.specs.Options.{isSome}
 use Rattle.std.specs.shelf.Lists.{All}
 use Rattle.std.specs.shelf.Text.{sameBytes}
@@ -13,30 +13,18 @@ use Rattle.std.specs.declared.option.Option.the-variants.{Some}
 use Rattle.sheet.specs.Offer.{Offer}
 use Rattle.book.specs.Limits.{same, is, count}
 use Rattle.book.specs.Roll.{standing, stands, others}
+use Rattle.book.specs.Within.{same-decides}
 
 -- ---- the identifier
 
 pub same-bytes : (xs ys : List ℕ) → sameBytes xs ys ≡ true → xs ≡ ys
-same-bytes [] [] h = refl
-same-bytes [] (y ∷ ys) h = let z : _≡_ {A = ℕ} 0 1 = cc in absurd (omega arith)
-same-bytes (x ∷ xs) [] h = let z : _≡_ {A = ℕ} 0 1 = cc in absurd (omega arith)
-same-bytes (x ∷ xs) (y ∷ ys) h =
-    let p = and-parts (eqb x y) (sameBytes xs ys) h in
-    let e = eqb-true x y (p .0) in
-    let r = same-bytes xs ys (p .1) in
-    cc
-
-bytes-same : (xs : List ℕ) → sameBytes xs xs ≡ true
-bytes-same [] = refl
-bytes-same (x ∷ xs) = and-from (eqb x x) (sameBytes xs xs) (eq-eqb x x refl) (bytes-same xs)
+same-bytes xs ys = sameBytes-decides xs ys .0
 
 pub same-parts : (name : List ℕ) (number : ℕ) (n : List ℕ) (k : ℕ) → same name number n k ≡ true → (n ≡ name) × (k ≡ number)
-same-parts name number n k h =
-    let p = and-parts (sameBytes n name) (eqb k number) h in
-    (same-bytes n name (p .0), eqb-true k number (p .1))
+same-parts name number n k = same-decides name number n k .0
 
 pub same-itself : (name : List ℕ) (number : ℕ) → same name number name number ≡ true
-same-itself name number = and-from (sameBytes name name) (eqb number number) (bytes-same name) (eq-eqb number number refl)
+same-itself name number = same-decides name number name number .1 (refl, refl)
 
 -- who is known by an identifier is known by no other
 pub is-other : (name : List ℕ) (number : ℕ) (n : List ℕ) (k : ℕ) (o : Offer) → is n k o ≡ true → is name number o ≡ same name number n k

@@ -4,6 +4,7 @@ pub mod Parts
 pub mod Once
 pub mod Law
 pub mod Limited
+pub mod Within
 pub mod Longer
 pub mod Later
 pub mod Deposits

@@ -3,11 +3,11 @@ use mathlib.Core.Path.{_≡_, refl, sym, ap, subst}
 use mathlib.Core.Logic.{_⊎_, inl, inr}
 use mathlib.Core.Bool.{Bool, true, false, cond, not}
 use mathlib.Core.List.{List, [], _∷_, _++_, map}
-use Prim.Native.Nat.{ℕ, zero, suc, _+_, _≤_, _<_}
+use Prim.Native.Nat.{ℕ, _+_, _≤_}
 use native.Mathlib.Omega.{arith}
 use lib.Dec.{leb, ltb}
 use lib.ListN.{length}
-use Rattle.std.proofs.shelf.Tests.{ltb-false, leb-true, cases-eq}
+use Rattle.std.proofs.shelf.Tests.{ltb-false, leb-true}
 use Rattle.std.proofs.shelf.Lists.{length-map, length-push}
 use Rattle.std.proofs.shelf.Elements.{all-push, all-map, all-kept-by, all-weaker}
 use Rattle.std.specs.Iters.{counting}
@@ -26,6 +26,7 @@ use Rattle.book.specs.Limits.{most-offers, most-pairs, most-volume, most-block
 use Rattle.book.specs.Roll.{Roll, new, stands, others, replaced, first-at, crowded, no-pairs, beside, with, entered, amended, withdrawn, needed}
 use Rattle.book.specs.Step.{Call, enter, amend, withdraw, need, save, Answer, Step}
 use Rattle.book.specs.Runs.{Runs, Limits-kept}
+use Rattle.book.specs.Within.{all-counted}
 use Rattle.book.specs.declared.fault.RegisterFault.the-variants.{Volume, Blocks}
 use Rattle.book.proofs.Known.{same-bytes, count-stands}
 use Rattle.book.proofs.Law.{once-pushed, once-replaced}
@@ -41,14 +42,6 @@ none-first test (t ∷ ts) h = go (test t) refl (none-first test ts) h
     go : (b : Bool) → test t ≡ b → (no-pairs (first-at test ts) ≡ Ok tt → All (λ u. test u ≡ false) ts) → no-pairs (cond b (Some t) (first-at test ts)) ≡ Ok tt → (test t ≡ false) × All (λ u. test u ≡ false) ts
     go true e more h = let z : _≡_ {A = ℕ} 0 1 = cc in absurd (omega arith)
     go false e more h = (e, more h)
-
-all-counted : (P : ℕ → Type 0) (a n : ℕ) → All P (counting a n) → (t : ℕ) → a ≤ t → t < a + n → P t
-all-counted P a zero h t low high = absurd (omega arith)
-all-counted P a (suc n) h t low high = go (cases-eq a t) (all-counted P (a + 1) n (h .1) t)
-  where
-    go : (a ≡ t) ⊎ (a ≡ t → ⊥) → (a + 1 ≤ t → t < a + 1 + n → P t) → P t
-    go (inl e) more = subst P e (h .0)
-    go (inr e) more = more (omega arith) (omega arith)
 
 must-alone : {F : Type 0} (b : Bool) (f : F) → must b f ≡ Ok tt → b ≡ true
 must-alone true f h = refl
@@ -141,7 +134,7 @@ module _ (days : List ℕ) where
     blocks = omega arith;
   }
 
-  limits-pushed : (offers : List Offer) (o : Offer) (text : List ℕ) → Limits days offers → read-alone (length days) text ≡ Ok o → Admitted (length days) offers o → Limits days (offers ++ (o ∷ []))
+  pub limits-pushed : (offers : List Offer) (o : Offer) (text : List ℕ) → Limits days offers → read-alone (length days) text ≡ Ok o → Admitted (length days) offers o → Limits days (offers ++ (o ∷ []))
   limits-pushed offers o text l sheet a =
       joined-by offers (offers ++ (o ∷ [])) o l (λ g. sum-push g offers o) (beside-parts (length days) offers o (a .within))
       (all-push (Fits (length days)) offers o (l .sheets) (read-fits text o sheet))

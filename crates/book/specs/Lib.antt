@@ -5,3 +5,4 @@ pub mod Needs
 pub mod Roll
 pub mod Runs
 pub mod Step
+pub mod Within
