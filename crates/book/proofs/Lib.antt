@@ -4,3 +4,15 @@ pub mod Firsts
 pub mod Placed
 pub mod Halved
 pub mod Allowed
+pub mod Sums
+pub mod Known
+pub mod Parts
+pub mod Once
+pub mod Law
+pub mod Limited
+pub mod Within
+pub mod Longer
+pub mod Later
+pub mod Deposits
+mod Examples
+mod RunExamples

@@ -8,3 +8,4 @@ pub mod Roll
 pub mod Runs
 pub mod Step
 pub mod Table
+pub mod Within

@@ -1,14 +1,14 @@
 pub mod Asked
-mod Each
-mod Short
-mod Periods
-mod LinesBack
-mod Saves
-mod SheetKeeps
-mod Kept
-mod Puts
-mod Rows
-mod Judged
-mod Placed
-mod ByMonth
-mod Examples
+pub mod ByMonth
+pub mod Each
+pub mod Examples
+pub mod Judged
+pub mod Kept
+pub mod LinesBack
+pub mod Periods
+pub mod Placed
+pub mod Puts
+pub mod Rows
+pub mod Saves
+pub mod SheetKeeps
+pub mod Short
