@@ -13,7 +13,12 @@ use Rattle.std.specs.declared.option.Option.{Option}
 use Rattle.std.specs.declared.option.Option.the-variants.{Some, None}
 use Rattle.text.specs.Form.{_>>=_, Reads, between, after, run, digit, name, value, needless-zero, number-up-to, whole, decimals, price, ended, field, fields, line-of, keyed, named}
 use Rattle.text.proofs.FormKeeps.{some-from, passed}
-use Rattle.text.proofs.Runs.{some-parts}
+
+-- two pairs that were read are the same part by part
+some-parts : {X Y : Type 0} (a c : X) (b d : Y) → _≡_ {A = Option (X × Y)} (Some (a, b)) (Some (c, d)) → (a ≡ c) × (b ≡ d)
+some-parts {X} {Y} a c b d e =
+    let p : _≡_ {A = X × Y} (a, b) (c, d) = cc in
+    (ap (λ (q : X × Y). q .0) p, ap (λ (q : X × Y). q .1) p)
 
 -- what is read with a byte left over
 abbrev pub Goes-on : {X : Type 0} → Reads X → Type 0
