@@ -6,3 +6,4 @@ pub mod Roll
 pub mod Runs
 pub mod Step
 pub mod Within
+pub mod Taken
