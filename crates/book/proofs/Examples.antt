@@ -17,6 +17,7 @@ use Rattle.sheet.specs.declared.product.Product.the-variants.{Rapid, Complement
 use Rattle.book.specs.Deposit.{deposited}
 use Rattle.book.specs.Needs.{no-need}
 use Rattle.book.specs.Roll.{Roll, with, entered, amended, withdrawn, needed, saved}
+use Rattle.book.specs.Taken.{choices, withheld, takes, taken}
 use Rattle.book.specs.Within.{fitting, within}
 use Rattle.book.specs.declared.fault.RegisterFault.the-variants.{Sheet, Known, Unknown, Full, Pairs, Volume, Blocks, Period, Space}
 
@@ -124,6 +125,20 @@ thirty-two = refl
 twice : within (5 ∷ 2 ∷ []) (a1 ∷ b2 ∷ a1 ∷ []) ≡ false
 unfolding within fitting
 twice = refl
+
+-- ---- taken blocks: the first and the third offer have one
+
+abbrev month-block : ℕ → Offer
+month-block number = plain (codes "C") number 10 1 (Some 7)
+
+blocks-chosen : takes 2 (month-block 1 ∷ b2 ∷ month-block 3 ∷ []) ≡ false ∷ false ∷ true ∷ []
+blocks-chosen = refl
+
+second-taken : taken 2 (month-block 1 ∷ b2 ∷ month-block 3 ∷ []) ≡ month-block 1 ∷ b2 ∷ withheld (month-block 3) ∷ []
+second-taken = refl
+
+four-choices : choices (month-block 1 ∷ b2 ∷ month-block 3 ∷ []) ≡ 4
+four-choices = refl
 
 -- ---- the deposit
 

@@ -1,20 +1,19 @@
 -- A sheet at the front of a longer text, with lines before it, is read or refused as it is alone.
 use mathlib.Core.Path.{_≡_, refl, sym, ap, subst, _∙_}
 use mathlib.Core.Bool.{Bool, true, false, not, _&&_}
-use mathlib.Core.List.{List, [], _∷_, _++_, append-nil}
+use mathlib.Core.List.{List, [], _++_, append-nil}
 use Prim.Native.Nat.{ℕ, zero, suc, _+_}
 use native.Mathlib.Nat.{add-assoc}
-use native.Mathlib.Omega.{arith}
 use lib.Chars.{codes}
-use lib.Dec.{eqb, ltb, leb}
+use lib.Dec.{leb}
 use Rattle.std.specs.Options.{okOr}
 use Rattle.std.specs.declared.option.Option.{Option}
 use Rattle.std.specs.declared.option.Option.the-variants.{Some, None}
 use Rattle.std.specs.declared.result.Result.{Result}
 use Rattle.std.specs.declared.result.Result.the-variants.{Ok, Err}
-use Rattle.text.specs.Form.{Reads, between, field, ended, whole, price, line-of, keyed, named}
-use Rattle.sheet.specs.Offer.{Offer}
-use Rattle.sheet.specs.Sheet.{_>>=_, _>>_, must, Line, line, itself, agreeing, identifier-line, floor-line, product-line, domax-line, mark-line, Head, head, shape-line, width-line, period-line, price-line, price-lines, block-line, offer-of, read}
+use Rattle.text.specs.Form.{Reads, field, ended, whole, price, line-of, keyed, named}
+use Rattle.sheet.specs.Limits.{highest-number}
+use Rattle.sheet.specs.Sheet.{_>>=_, _>>_, must, Line, line, itself, agreeing, identifier-line, floor-line, product-line, domax-line, mark-line, Head, head, shape-line, width-line, period-line, price-line, price-lines, block-line, read}
 use Rattle.sheet.specs.declared.fault.SheetFault.{SheetFault}
 use Rattle.sheet.specs.declared.fault.SheetFault.the-variants.{Form, Value, Marks, Order, PartMonth}
 use Rattle.book.specs.Fault.{sheet-later}
@@ -76,7 +75,7 @@ module _ (n : ℕ) (more : List ℕ) where
 
   head-later : (text : List ℕ) → Later (head 0 text) (head n (text ++ more))
   head-later text =
-      bind-later (identifier-line 1 text) _ _ _ (line-later named (λ id. leb (id .1) 65535) itself named-longer 1 text) (λ s1.
+      bind-later (identifier-line 1 text) _ _ _ (line-later named (λ id. leb (id .1) highest-number) itself named-longer 1 text) (λ s1.
       bind-later (floor-line 2 (s1 .1)) _ _ _ (keyed-later (codes "seuil_minimum;") _ itself 2 (s1 .1)) (λ s2.
       bind-later (product-line 3 (s2 .1)) _ _ _ (keyed-later (codes "DMO;") _ _ 3 (s2 .1)) (λ s3.
       bind-later (domax-line (s3 .0) 4 (s3 .1)) _ _ _ (keyed-later (codes "DOmax;") _ itself 4 (s3 .1)) (λ s4.

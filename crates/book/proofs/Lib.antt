@@ -11,6 +11,7 @@ pub mod Once
 pub mod Law
 pub mod Limited
 pub mod Within
+pub mod Withheld
 pub mod Longer
 pub mod Later
 pub mod Deposits

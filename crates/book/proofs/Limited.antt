@@ -18,7 +18,7 @@ use Rattle.std.specs.declared.result.Result.the-variants.{Ok}
 use Rattle.text.specs.Judging.{must}
 use Rattle.sheet.specs.Offer.{Offer, total, width}
 use Rattle.sheet.specs.Saved.{Fits}
-use Rattle.sheet.specs.Sheet.{read-alone}
+use Rattle.sheet.specs.Sheet.{read, read-alone}
 use Rattle.sheet.specs.declared.product.Product.{Product}
 use Rattle.sheet.specs.declared.product.Product.the-variants.{Rapid, Complementary}
 use Rattle.sheet.proofs.Kept.{read-keeps, alone-from}
@@ -71,6 +71,14 @@ same-product Rapid Complementary = inr refl
 same-product Complementary Rapid = inr refl
 same-product Complementary Complementary = inl refl
 
+-- ---- what is read fits
+
+pub read-fits : (T before : ℕ) (text : List ℕ) (o : Offer) (rest : List ℕ) → read T before text ≡ Ok (o, rest) → Fits T o
+read-fits T before text o rest h = read-keeps T before text (o, rest) h .0
+
+pub alone-fits : (T : ℕ) (text : List ℕ) (o : Offer) → read-alone T text ≡ Ok o → Fits T o
+alone-fits T text o h = let a = alone-from T text o h in read-fits T 0 text o (a .0) (a .1)
+
 -- ---- offers joined by one
 
 module _ (days : List ℕ) where
@@ -116,11 +124,6 @@ module _ (days : List ℕ) where
     blocks = let c = sum-kept (λ x. cond (has-block x) 1 0) p offers in let k = l .blocks in omega arith;
   }
 
-  read-fits : (text : List ℕ) (o : Offer) → read-alone (length days) text ≡ Ok o → Fits (length days) o
-  read-fits text o h =
-      let a = alone-from (length days) text o h in
-      read-keeps (length days) 0 text (o, a .0) (a .1) .0
-
   -- ---- what a call makes of the offers
 
   pub limits-none : length days ≤ 11 → total days ≤ 31 → Limits days []
@@ -134,24 +137,23 @@ module _ (days : List ℕ) where
     blocks = omega arith;
   }
 
-  pub limits-pushed : (offers : List Offer) (o : Offer) (text : List ℕ) → Limits days offers → read-alone (length days) text ≡ Ok o → Admitted (length days) offers o → Limits days (offers ++ (o ∷ []))
-  limits-pushed offers o text l sheet a =
+  pub limits-pushed : (offers : List Offer) (o : Offer) → Limits days offers → Fits (length days) o → Admitted (length days) offers o → Limits days (offers ++ (o ∷ []))
+  limits-pushed offers o l fit a =
       joined-by offers (offers ++ (o ∷ [])) o l (λ g. sum-push g offers o) (beside-parts (length days) offers o (a .within))
-      (all-push (Fits (length days)) offers o (l .sheets) (read-fits text o sheet))
+      (all-push (Fits (length days)) offers o (l .sheets) fit)
       (once-pushed offers o (l .apart) (a .new-one))
       (let n = length-push offers o in let r = a .room in omega arith)
 
-  pub limits-with : (offers after : List Offer) (o : Offer) (text : List ℕ) → Limits days offers → read-alone (length days) text ≡ Ok o → with (length days) offers o ≡ Ok after → Limits days after
-  limits-with offers after o text l sheet h =
+  pub limits-with : (offers after : List Offer) (o : Offer) → Limits days offers → Fits (length days) o → with (length days) offers o ≡ Ok after → Limits days after
+  limits-with offers after o l fit h =
       let w = with-parts (length days) offers o after h in
-      subst (Limits days) (sym (w .1)) (limits-pushed offers o text l sheet (w .0))
+      subst (Limits days) (sym (w .1)) (limits-pushed offers o l fit (w .0))
 
-  pub limits-replaced : (offers : List Offer) (o : Offer) (text : List ℕ) → Limits days offers → read-alone (length days) text ≡ Ok o → stands (o .name) (o .number) offers ≡ true →
+  pub limits-replaced : (offers : List Offer) (o : Offer) → Limits days offers → Fits (length days) o → stands (o .name) (o .number) offers ≡ true →
       beside (length days) (others (o .name) (o .number) offers) o ≡ Ok tt → Limits days (replaced o offers)
-  limits-replaced offers o text l sheet known h =
+  limits-replaced offers o l fit known h =
       let rest = others (o .name) (o .number) offers in
       let f : Offer → Offer = λ old. cond (is (o .name) (o .number) old) o old in
-      let fit = read-fits text o sheet in
       let once : count (is (o .name) (o .number)) offers ≡ 1 = let a = l .apart (o .name) (o .number) in let c = count-stands (o .name) (o .number) offers known in omega arith in
       joined-by rest (replaced o offers) o (limits-less (λ x. not (is (o .name) (o .number) x)) offers l) (λ g. sum-swapped g o offers once) (beside-parts (length days) rest o h)
       (all-map (Fits (length days)) f offers (all-weaker (Fits (length days)) _ (λ x fx. either x (is (o .name) (o .number) x) fit fx) offers (l .sheets)))
@@ -175,13 +177,13 @@ module _ (days : List ℕ) where
     limits-step (enter text) a after h = elim (changed-parts (entered (length days) roll text) roll a after h) [
       | inl s ↦
           let p = entered-parts (length days) roll text after (s .0) in
-          subst (λ r. Limits days (r .offers)) (sym (p .made)) (limits-pushed (roll .offers) (p .offer) text l (p .sheet) (p .enters))
+          subst (λ r. Limits days (r .offers)) (sym (p .made)) (limits-pushed (roll .offers) (p .offer) l (alone-fits (length days) text (p .offer) (p .sheet)) (p .enters))
       | inr s ↦ same-roll after (s .2)
     ]
     limits-step (amend text) a after h = elim (changed-parts (amended (length days) roll text) roll a after h) [
       | inl s ↦
           let p = amended-parts (length days) roll text after (s .0) in
-          subst (λ r. Limits days (r .offers)) (sym (p .made)) (limits-replaced (roll .offers) (p .offer) text l (p .sheet) (p .known) (p .within))
+          subst (λ r. Limits days (r .offers)) (sym (p .made)) (limits-replaced (roll .offers) (p .offer) l (alone-fits (length days) text (p .offer) (p .sheet)) (p .known) (p .within))
       | inr s ↦ same-roll after (s .2)
     ]
     limits-step (withdraw name number) a after h = elim (changed-parts (withdrawn (length days) roll name number) roll a after h) [

@@ -9,3 +9,4 @@ pub mod Runs
 pub mod Step
 pub mod Table
 pub mod Within
+pub mod Taken

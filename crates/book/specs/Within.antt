@@ -1,5 +1,5 @@
 -- The limits of a book as a test, for an invariant to hold, and the proof that it decides them. Assumes nothing.
-use mathlib.Core.Path.{_≡_, refl, sym, ap, subst, _∙_}
+use mathlib.Core.Path.{_≡_, refl, sym, subst, _∙_}
 use mathlib.Core.Logic.{_⊎_, inl, inr}
 use mathlib.Core.Bool.{Bool, true, false, cond, not, _&&_}
 use mathlib.Core.List.{List, [], _∷_, map}
@@ -17,9 +17,9 @@ use Rattle.std.proofs.shelf.Counted.{length-counting, getD-counting}
 use Rattle.std.proofs.shelf.Elements.{all-getD, all-from-getD, all-weaker}
 use Rattle.std.proofs.shelf.Equals.{sameBytes-decides}
 use Rattle.std.proofs.shelf.Tests.{leb-true, le-leb, not-true, not-from-false}
-use Rattle.std.proofs.shelf.Ways.{decides-eqb, decides-like, decides-and, decides-by-and}
+use Rattle.std.proofs.shelf.Ways.{decides-eqb, decides-and, decides-by-and}
 use Rattle.text.specs.Form.{between, letter-or-digit}
-use Rattle.sheet.specs.Limits.{longest-name, highest-number, lowest-floor, highest-floor, most-ranges, widest, most-periods, highest-price, highest-block}
+use Rattle.sheet.specs.Limits.{longest-name, highest-number, lowest-floor, highest-floor, most-ranges, widest, highest-price, highest-block}
 use Rattle.sheet.specs.Offer.{Offer, total, width}
 use Rattle.sheet.specs.Saved.{Row-fits, Block-fits, Fits}
 use Rattle.sheet.specs.Sheet.{every, chain, priced}
