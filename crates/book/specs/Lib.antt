@@ -8,5 +8,5 @@ pub mod Roll
 pub mod Runs
 pub mod Step
 pub mod Table
-pub mod Within
 pub mod Taken
+pub mod Within
