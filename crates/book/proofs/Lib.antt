@@ -5,15 +5,18 @@ mod Examples
 pub mod Finding
 pub mod Firsts
 pub mod Halved
+pub mod Keeps
 pub mod Known
 pub mod Later
 pub mod Law
 pub mod Limited
 pub mod Longer
 pub mod Once
+pub mod Opened
 pub mod Parts
 pub mod Placed
 mod RunExamples
+pub mod Steps
 pub mod Sums
 pub mod Withheld
 pub mod Within

@@ -4,6 +4,7 @@ pub mod Deposit
 pub mod Fault
 pub mod Limits
 pub mod Needs
+pub mod Register
 pub mod Roll
 pub mod Runs
 pub mod Step

@@ -3,10 +3,12 @@ mod book;
 mod calls;
 mod fault;
 mod judging;
+mod keeping;
 mod laws;
 mod need;
 mod others;
 mod places;
+mod register;
 mod standing;
 mod table;
 
@@ -21,4 +23,5 @@ pub use laws::next_answered;
 pub use laws::one_answer;
 pub use laws::one_run;
 pub use need::Need;
+pub use register::Register;
 pub use table::MOST_OFFERS;

@@ -1,0 +1,70 @@
+//! The calls on a register.
+ghost use mathlib.Core.List.{[]};
+ghost use mathlib.Core.Path.{_≡_};
+ghost use Prim.Native.Nat.{_≤_};
+ghost use lib.ListN.{length};
+ghost use Rattle.std.specs.Vec.{made};
+ghost use Rattle.calendar.specs.Month.{day-counts};
+ghost use Rattle.sheet.specs.Sheet.{read-alone as read-alone-of};
+ghost use Rattle.book.specs.Fault.{of-sheet};
+ghost use Rattle.book.specs.Register.{answer-of, days-of, offer-read, periods-of, roll-of};
+ghost use Rattle.book.specs.Roll.{new as new-roll};
+ghost use Rattle.book.specs.Step.{Step, enter as Enter};
+use crate::fault::RegisterFault;
+use crate::fault::RegisterFaultFromSheet;
+use crate::need::Need;
+use crate::register::Register;
+use crate::table::Table;
+use calendar::Calendar;
+use calendar::MOST_PERIODS;
+use sheet::Offer;
+use sheet::read_alone;
+use std::alloc::AllocError;
+use std::alloc::Global;
+
+impl Register {
+    /// A register for a month, empty and with no needs. The room for all its offers is reserved here, and nowhere else is
+    /// memory asked for.
+    pub fn open(heap: Global, calendar: Calendar) -> Result<Register, AllocError>
+        ensures days { λ r. ⌜ made r (λ register. days-of register ≡ day-counts calendar) ⌝ }
+        ensures roll { λ r. ⌜ made r (λ register. roll-of register ≡ new-roll (length (day-counts calendar))) ⌝ }
+    {
+        let table = Table::open(heap)?;
+        let needs = [Need {
+            rapid: 0,
+            complementary: 0,
+        }; MOST_PERIODS];
+        Ok(Register {
+            calendar,
+            table,
+            needs,
+        })
+    }
+}
+
+impl Register {
+    /// How many periods the month has.
+    fn month(&self) -> usize
+        ensures value { λ r. ⌜ r ≡ periods-of (now (self .entry)) ⌝ }
+        ensures few { λ r. ⌜ r ≤ 11 ⌝ }
+    {
+        self.calendar.periods()
+    }
+
+    /// The offer that a text tells of as one sheet.
+    fn read(&self, text: &[u8]) -> Result<Offer, RegisterFault>
+        ensures { λ r. ⌜ offer-read r ≡ of-sheet (read-alone-of (periods-of (now (self .entry))) (now (text .entry))) ⌝ }
+    {
+        Ok(read_alone(self.month(), text)?)
+    }
+
+    /// Enters the offer that a sheet tells of, at the end.
+    pub fn enter(&mut self, text: &[u8]) -> Result<(), RegisterFault>
+        ensures step { λ r. ⌜ Step (periods-of (now (self .entry))) (roll-of (now (self .entry))) (Enter (now (text .entry))) (answer-of r) (roll-of (now (self .exit))) ⌝ }
+        ensures days { λ _. ⌜ days-of (now (self .exit)) ≡ days-of (now (self .entry)) ⌝ }
+    {
+        let offer = self.read(text)?;
+        let periods = self.month();
+        self.table.enter(periods, offer)
+    }
+}
