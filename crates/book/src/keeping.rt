@@ -9,7 +9,7 @@ ghost use Rattle.sheet.specs.Sheet.{read-alone as read-alone-of};
 ghost use Rattle.book.specs.Fault.{of-sheet};
 ghost use Rattle.book.specs.Register.{answer-of, days-of, offer-read, periods-of, roll-of};
 ghost use Rattle.book.specs.Roll.{new as new-roll};
-ghost use Rattle.book.specs.Step.{Step, enter as Enter};
+ghost use Rattle.book.specs.Step.{Step, amend as Amend, enter as Enter, need as SetNeed, withdraw as Withdraw};
 use crate::fault::RegisterFault;
 use crate::fault::RegisterFaultFromSheet;
 use crate::need::Need;
@@ -21,6 +21,9 @@ use sheet::Offer;
 use sheet::read_alone;
 use std::alloc::AllocError;
 use std::alloc::Global;
+
+/// The highest need of a product in a period, in MW.
+const HIGHEST_NEED: u64 = 1_000;
 
 impl Register {
     /// A register for a month, empty and with no needs. The room for all its offers is reserved here, and nowhere else is
@@ -66,5 +69,42 @@ impl Register {
         let offer = self.read(text)?;
         let periods = self.month();
         self.table.enter(periods, offer)
+    }
+
+    /// Puts the offer that a sheet tells of into the place of the one of its name and number, and touches no other.
+    pub fn amend(&mut self, text: &[u8]) -> Result<(), RegisterFault>
+        ensures step { λ r. ⌜ Step (periods-of (now (self .entry))) (roll-of (now (self .entry))) (Amend (now (text .entry))) (answer-of r) (roll-of (now (self .exit))) ⌝ }
+        ensures days { λ _. ⌜ days-of (now (self .exit)) ≡ days-of (now (self .entry)) ⌝ }
+    {
+        let offer = self.read(text)?;
+        let periods = self.month();
+        self.table.amend(periods, offer)
+    }
+
+    /// Takes the offer of that name and number out, and keeps the order of the others.
+    pub fn withdraw(&mut self, name: &[u8], number: u64) -> Result<(), RegisterFault>
+        ensures step { λ r. ⌜ Step (periods-of (now (self .entry))) (roll-of (now (self .entry))) (Withdraw (now (name .entry)) number) (answer-of r) (roll-of (now (self .exit))) ⌝ }
+        ensures days { λ _. ⌜ days-of (now (self .exit)) ≡ days-of (now (self .entry)) ⌝ }
+    {
+        self.table.withdraw(name, number)
+    }
+
+    /// Sets what a period needs of each product, in MW.
+    pub fn need(&mut self, period: u64, rapid: u64, complementary: u64) -> Result<(), RegisterFault>
+        ensures step { λ r. ⌜ Step (periods-of (now (self .entry))) (roll-of (now (self .entry))) (SetNeed period rapid complementary) (answer-of r) (roll-of (now (self .exit))) ⌝ }
+        ensures days { λ _. ⌜ days-of (now (self .exit)) ≡ days-of (now (self .entry)) ⌝ }
+    {
+        if period < 1
+            || period > self.month() as u64
+            || rapid > HIGHEST_NEED
+            || complementary > HIGHEST_NEED
+        {
+            return Err(RegisterFault::Period(period));
+        }
+        self.needs[period as usize - 1] = Need {
+            rapid: rapid as u32,
+            complementary: complementary as u32,
+        };
+        Ok(())
     }
 }
