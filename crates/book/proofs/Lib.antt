@@ -16,6 +16,7 @@ pub mod Opened
 pub mod Parts
 pub mod Placed
 mod RunExamples
+pub mod Saving
 pub mod Steps
 pub mod Sums
 pub mod Withheld

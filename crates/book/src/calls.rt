@@ -7,9 +7,10 @@ ghost use Rattle.std.specs.Of.Vec.{vec-len};
 ghost use Rattle.std.specs.Vec.{made};
 ghost use Rattle.text.specs.Tokens.{If-some};
 ghost use Rattle.sheet.specs.Facts.{facts};
-ghost use Rattle.book.specs.Calls.{amendable, if-ok, withdrawable};
+ghost use Rattle.std.specs.declared.option.Option.the-variants.{Some};
+ghost use Rattle.book.specs.Calls.{amendable, if-ok, saved-buffer, saved-length, withdrawable};
 ghost use Rattle.book.specs.Limits.{count, is};
-ghost use Rattle.book.specs.Roll.{admitted, beside, others, replaced, stands as stands-in};
+ghost use Rattle.book.specs.Roll.{admitted, beside, others, replaced, standing as standing-in, stands as stands-in};
 ghost use Rattle.book.specs.Table.{offers-of, place-of};
 use crate::fault::RegisterFault;
 use crate::others::Others;
@@ -17,6 +18,7 @@ use crate::places::find;
 use crate::table::MOST_OFFERS;
 use crate::table::Table;
 use sheet::Offer;
+use sheet::SaveFault;
 
 impl Table {
     /// The place of the offer of that name and number.
@@ -135,5 +137,32 @@ impl Table {
         };
         self.remove(place);
         Ok(())
+    }
+
+    /// Saves the offer of that name and number as its sheet.
+    pub(crate) fn save(
+        &self,
+        name: &[u8],
+        number: u64,
+        buffer: &mut [u8],
+    ) -> Result<usize, RegisterFault>
+        ensures value { λ r. ⌜ r ≡ saved-length (length (now (buffer .entry))) (standing-in (now (name .entry)) number (offers-of (now (self .entry)))) ⌝ }
+        ensures buffer { λ _. ⌜ now (buffer .exit) ≡ saved-buffer (now (buffer .entry)) (standing-in (now (name .entry)) number (offers-of (now (self .entry)))) ⌝ }
+    {
+        match self.place(name, number) {
+            Some(place) => save_offer(&self.as_slice()[place], buffer),
+            None => Err(RegisterFault::Unknown),
+        }
+    }
+}
+
+/// Saves an offer as its sheet, and tells how many bytes that are.
+fn save_offer(offer: &Offer, buffer: &mut [u8]) -> Result<usize, RegisterFault>
+    ensures value { λ r. ⌜ r ≡ saved-length (length (now (buffer .entry))) (Some (facts (now (offer .entry)))) ⌝ }
+    ensures buffer { λ _. ⌜ now (buffer .exit) ≡ saved-buffer (now (buffer .entry)) (Some (facts (now (offer .entry)))) ⌝ }
+{
+    match offer.save(buffer) {
+        Ok(length) => Ok(length),
+        Err(SaveFault::Space) => Err(RegisterFault::Space),
     }
 }

@@ -7,9 +7,10 @@ ghost use Rattle.std.specs.Vec.{made};
 ghost use Rattle.calendar.specs.Month.{day-counts};
 ghost use Rattle.sheet.specs.Sheet.{read-alone as read-alone-of};
 ghost use Rattle.book.specs.Fault.{of-sheet};
-ghost use Rattle.book.specs.Register.{answer-of, days-of, offer-read, periods-of, roll-of};
+ghost use Rattle.book.specs.Register.{answer-of, days-of, offer-read, periods-of, roll-of, save-answer-of};
 ghost use Rattle.book.specs.Roll.{new as new-roll};
-ghost use Rattle.book.specs.Step.{Step, amend as Amend, enter as Enter, need as SetNeed, withdraw as Withdraw};
+ghost use Rattle.book.specs.Step.{Buffer-after, Step};
+ghost use Rattle.book.specs.Step.{amend as Amend, enter as Enter, need as SetNeed, save as Save, withdraw as Withdraw};
 use crate::fault::RegisterFault;
 use crate::fault::RegisterFaultFromSheet;
 use crate::need::Need;
@@ -106,5 +107,14 @@ impl Register {
             complementary: complementary as u32,
         };
         Ok(())
+    }
+
+    /// Saves the offer of that name and number as its sheet, from the buffer's start, and tells how many bytes that are. A
+    /// refusal leaves the buffer as it was.
+    pub fn save(&self, name: &[u8], number: u64, buffer: &mut [u8]) -> Result<usize, RegisterFault>
+        ensures step { λ r. ⌜ Step (periods-of (now (self .entry))) (roll-of (now (self .entry))) (Save (now (name .entry)) number (length (now (buffer .entry)))) (save-answer-of (now (buffer .exit)) r) (roll-of (now (self .entry))) ⌝ }
+        ensures buffer { λ r. ⌜ Buffer-after (save-answer-of (now (buffer .exit)) r) (now (buffer .entry)) (now (buffer .exit)) ⌝ }
+    {
+        self.table.save(name, number, buffer)
     }
 }
