@@ -1,5 +1,5 @@
 //! The laws of the definitions, each the promise of a function, so that the check asks for its proof.
-ghost use Rattle.clearing.specs.Laws.{One-award, One-month-award, One-period-answer, One-month-answer};
+ghost use Rattle.clearing.specs.Laws.{One-award, One-month-award, One-period-answer, One-month-answer, Price-reached, Units-paid, Units-paid-whole, Blocks-paid};
 use cost::CostRule;
 
 /// Under every cost rule at most one award is named for a period and for a month, and a clearing has at most one answer.
@@ -8,6 +8,25 @@ pub fn one_answer<R: CostRule>(rule: &R) -> u8
     ensures month_award { λ _. ⌜ One-month-award (R·CostRule .rule) ⌝ }
     ensures period_answer { λ _. ⌜ One-period-answer (R·CostRule .rule) ⌝ }
     ensures month_answer { λ _. ⌜ One-month-answer (R·CostRule .rule) ⌝ }
+{
+    let _ = rule;
+    0
+}
+
+/// In an admitted award a product's price is 0, or the positive criterion of an accepted MW of one of its offers.
+pub fn price_reached<R: CostRule>(rule: &R) -> u8
+    ensures { λ _. ⌜ Price-reached (R·CostRule .rule) ⌝ }
+{
+    let _ = rule;
+    0
+}
+
+/// Every accepted MW of an offer and every taken block is paid at least its price, and a mark never takes more from the
+/// pay than there is.
+pub fn paid_well<R: CostRule>(rule: &R) -> u8
+    ensures units { λ _. ⌜ Units-paid (R·CostRule .rule) ⌝ }
+    ensures units_whole { λ _. ⌜ Units-paid-whole (R·CostRule .rule) ⌝ }
+    ensures blocks { λ _. ⌜ Blocks-paid (R·CostRule .rule) ⌝ }
 {
     let _ = rule;
     0
