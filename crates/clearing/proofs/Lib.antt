@@ -3,3 +3,6 @@ pub mod Unique
 pub mod Once
 pub mod Prices
 pub mod Pays
+pub mod Lead
+pub mod Split
+pub mod Halving

@@ -25,7 +25,12 @@ Ahead (p ∷ ps) (q ∷ qs) = (q < p) ⊎ ((p ≡ q) × Ahead ps qs)
 abbrev pub Leads : (R : Rule) → R .Meaning → List ℕ → R .Meaning → List ℕ → Type 0
 Leads R m ps n qs = R .cheaper m n ⊎ ((m ≡ n) × Ahead ps qs)
 
--- the first among the cheapest of a set of powers
+-- a cheapest of a set of powers
+pub record Least (R : Rule) (cost : List ℕ → R .Meaning) (P : List ℕ → Type 0) (ps : List ℕ) : Type 0 where
+  pub holds : P ps
+  pub least : (qs : List ℕ) → P qs → R .cheaper (cost qs) (cost ps) → ⊥
+
+-- the first among the cheapest
 pub record First (R : Rule) (cost : List ℕ → R .Meaning) (P : List ℕ → Type 0) (ps : List ℕ) : Type 0 where
   pub holds : P ps
   pub leads : (qs : List ℕ) → P qs → Leads R (cost ps) ps (cost qs) qs

@@ -77,38 +77,39 @@ Blocks-paid R =
 
 -- ---- halves, at the prices rr and rc and the volumes v and w
 
-module _ (R : Rule) where
-  -- the cost of a whole is that of its two parts
-  abbrev pub Cost-splits : Type 0
-  Cost-splits =
-      (d t : ℕ) (offers : List Offer) (rr rc : ℕ) (powers : List ℕ) →
-      whole-cost d t offers R rr rc powers ≡ R .joined (half-cost d t offers Rapid R rr (part Rapid offers powers)) (half-cost d t offers Complementary R rc (part Complementary offers powers))
+-- the cost of a whole is that of its two parts
+abbrev pub Cost-splits : Rule → Type 0
+Cost-splits R =
+    (d t : ℕ) (offers : List Offer) (rr rc : ℕ) (powers : List ℕ) →
+    whole-cost d t offers R rr rc powers ≡ R .joined (half-cost d t offers Rapid R rr (part Rapid offers powers)) (half-cost d t offers Complementary R rc (part Complementary offers powers))
 
-  -- the first RR half beside the first RC half is the first whole
+-- for the first among the cheapest, and for the cheapest
+module _ (R : Rule) (Best : (cost : List ℕ → R .Meaning) (P : List ℕ → Type 0) → List ℕ → Type 0) where
+  -- the best RR half beside the best RC half is the best whole
   abbrev pub Halves-join : Type 0
   Halves-join =
       (d t : ℕ) (offers : List Offer) (rr rc v w : ℕ) (us vs : List ℕ) →
-      First R (half-cost d t offers Rapid R rr) (Half d t offers Rapid rr v) us →
-      First R (half-cost d t offers Complementary R rc) (Half d t offers Complementary rc w) vs →
-      First R (whole-cost d t offers R rr rc) (Whole d t offers rr rc v w) (beside offers us vs)
+      Best (half-cost d t offers Rapid R rr) (Half d t offers Rapid rr v) us →
+      Best (half-cost d t offers Complementary R rc) (Half d t offers Complementary rc w) vs →
+      Best (whole-cost d t offers R rr rc) (Whole d t offers rr rc v w) (beside offers us vs)
 
-  -- the parts of these powers are the first halves, which side by side are these powers
-  pub record Of-first-halves (d t : ℕ) (offers : List Offer) (rr rc v w : ℕ) (powers : List ℕ) : Type 0 where
-    pub rr-first : First R (half-cost d t offers Rapid R rr) (Half d t offers Rapid rr v) (part Rapid offers powers)
-    pub rc-first : First R (half-cost d t offers Complementary R rc) (Half d t offers Complementary rc w) (part Complementary offers powers)
+  -- the parts of these powers are the best halves, and side by side they are these powers
+  pub record Of-halves (d t : ℕ) (offers : List Offer) (rr rc v w : ℕ) (powers : List ℕ) : Type 0 where
+    pub rr-best : Best (half-cost d t offers Rapid R rr) (Half d t offers Rapid rr v) (part Rapid offers powers)
+    pub rc-best : Best (half-cost d t offers Complementary R rc) (Half d t offers Complementary rc w) (part Complementary offers powers)
     pub both : beside offers (part Rapid offers powers) (part Complementary offers powers) ≡ powers
 
-  -- the first whole is made of first halves
+  -- the best whole is made of best halves
   abbrev pub Whole-splits : Type 0
   Whole-splits =
       (d t : ℕ) (offers : List Offer) (rr rc v w : ℕ) (powers : List ℕ) →
-      First R (whole-cost d t offers R rr rc) (Whole d t offers rr rc v w) powers → Of-first-halves d t offers rr rc v w powers
+      Best (whole-cost d t offers R rr rc) (Whole d t offers rr rc v w) powers → Of-halves d t offers rr rc v w powers
 
-  -- so is the named award, at its own prices and volumes
-  abbrev pub Named-splits : Type 0
-  Named-splits =
-      (d t : ℕ) (offers : List Offer) (cover : Cover) (a : Award R) → Named d t offers R cover a →
-      Of-first-halves d t offers (a .rr-price) (a .rc-price) (a .rr-volume) (a .rc-volume) (a .powers)
+-- the named award is made of the first halves at its own prices and volumes
+abbrev pub Named-splits : Rule → Type 0
+Named-splits R =
+    (d t : ℕ) (offers : List Offer) (cover : Cover) (a : Award R) → Named d t offers R cover a →
+    Of-halves R (First R) d t offers (a .rr-price) (a .rc-price) (a .rr-volume) (a .rc-volume) (a .powers)
 
 -- ---- a choice of blocks
 

@@ -1,5 +1,6 @@
 //! The laws of the definitions, each the promise of a function, so that the check asks for its proof.
-ghost use Rattle.clearing.specs.Laws.{One-award, One-month-award, One-period-answer, One-month-answer, Price-reached, Units-paid, Units-paid-whole, Blocks-paid};
+ghost use Rattle.clearing.specs.Halves.{Least, First};
+ghost use Rattle.clearing.specs.Laws.{One-award, One-month-award, One-period-answer, One-month-answer, Price-reached, Units-paid, Units-paid-whole, Blocks-paid, Cost-splits, Halves-join, Whole-splits, Named-splits};
 use cost::CostRule;
 
 /// Under every cost rule at most one award is named for a period and for a month, and a clearing has at most one answer.
@@ -27,6 +28,20 @@ pub fn paid_well<R: CostRule>(rule: &R) -> u8
     ensures units { λ _. ⌜ Units-paid (R·CostRule .rule) ⌝ }
     ensures units_whole { λ _. ⌜ Units-paid-whole (R·CostRule .rule) ⌝ }
     ensures blocks { λ _. ⌜ Blocks-paid (R·CostRule .rule) ⌝ }
+{
+    let _ = rule;
+    0
+}
+
+/// At fixed prices and volumes the products are decided alone. A cheapest whole is a cheapest RR half beside a cheapest RC
+/// half, the first whole is the first RR half beside the first RC half, and the named award is made of first halves.
+pub fn halves<R: CostRule>(rule: &R) -> u8
+    ensures cost { λ _. ⌜ Cost-splits (R·CostRule .rule) ⌝ }
+    ensures least_joins { λ _. ⌜ Halves-join (R·CostRule .rule) (Least (R·CostRule .rule)) ⌝ }
+    ensures least_splits { λ _. ⌜ Whole-splits (R·CostRule .rule) (Least (R·CostRule .rule)) ⌝ }
+    ensures first_joins { λ _. ⌜ Halves-join (R·CostRule .rule) (First (R·CostRule .rule)) ⌝ }
+    ensures first_splits { λ _. ⌜ Whole-splits (R·CostRule .rule) (First (R·CostRule .rule)) ⌝ }
+    ensures named { λ _. ⌜ Named-splits (R·CostRule .rule) ⌝ }
 {
     let _ = rule;
     0
