@@ -6,3 +6,4 @@ pub mod Pays
 pub mod Lead
 pub mod Split
 pub mod Halving
+pub mod Choices

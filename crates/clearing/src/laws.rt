@@ -1,6 +1,6 @@
 //! The laws of the definitions, each the promise of a function, so that the check asks for its proof.
 ghost use Rattle.clearing.specs.Halves.{Least, First};
-ghost use Rattle.clearing.specs.Laws.{One-award, One-month-award, One-period-answer, One-month-answer, Price-reached, Units-paid, Units-paid-whole, Blocks-paid, Cost-splits, Halves-join, Whole-splits, Named-splits};
+ghost use Rattle.clearing.specs.Laws.{One-award, One-month-award, One-period-answer, One-month-answer, Price-reached, Units-paid, Units-paid-whole, Blocks-paid, Cost-splits, Halves-join, Whole-splits, Named-splits, None-taken, Ones-taken};
 use cost::CostRule;
 
 /// Under every cost rule at most one award is named for a period and for a month, and a clearing has at most one answer.
@@ -44,5 +44,13 @@ pub fn halves<R: CostRule>(rule: &R) -> u8
     ensures named { λ _. ⌜ Named-splits (R·CostRule .rule) ⌝ }
 {
     let _ = rule;
+    0
+}
+
+/// The choice of no block leaves book and cover as they are, and a choice takes as many blocks as its set number has ones.
+pub fn choices_of_blocks() -> u8
+    ensures none { λ _. ⌜ None-taken ⌝ }
+    ensures ones { λ _. ⌜ Ones-taken ⌝ }
+{
     0
 }
