@@ -7,3 +7,7 @@ pub mod Lead
 pub mod Split
 pub mod Halving
 pub mod Choices
+pub mod Tests
+pub mod Judging
+pub mod Listing
+pub mod Worked

@@ -6,3 +6,4 @@ pub mod Month
 pub mod Answer
 pub mod Halves
 pub mod Laws
+pub mod Tenders

@@ -3,5 +3,6 @@
 
 pub mod fault;
 pub mod laws;
+pub mod tenders;
 
 pub use fault::ClearingFault;
