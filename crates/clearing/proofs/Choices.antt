@@ -5,7 +5,7 @@ use mathlib.Core.List.{List, [], _∷_}
 use Prim.Native.Nat.{ℕ, zero, suc, _+_, _-_, _/_, _%_, _^_, _<_}
 use native.Mathlib.Omega.{arith}
 use native.Mathlib.Nat.{pow-suc, zero-add}
-use native.Mathlib.Numerals.{one-add}
+use native.Mathlib.Numerals.{one-add, unary-clauses}
 use lib.Count.{ones, ones-step}
 use lib.Dec.{eqb}
 use borrow.Author.Tests.{eqb-true, eqb-false}
@@ -48,12 +48,7 @@ no-mw product (o ∷ os) =
     omega (arith, e, f)
 
 cover-kept : (offers : List Offer) (n : Need) → still offers 0 n ≡ cover-of n
-cover-kept offers n =
-    let a = no-mw Rapid offers in
-    let b = no-mw Complementary offers in
-    let e : n .rapid - taken-mw offers 0 Rapid ≡ n .rapid = omega arith in
-    let f : (n .rapid + n .complementary) - (taken-mw offers 0 Rapid + taken-mw offers 0 Complementary) ≡ n .rapid + n .complementary = omega arith in
-    λ i. record { rr = e i; both = f i }
+cover-kept offers n = simp (no-mw Rapid offers, no-mw Complementary offers, unary-clauses)
 
 pub none-taken : None-taken
 none-taken offers n = (book-kept offers, cover-kept offers n)

@@ -6,7 +6,7 @@ use mathlib.Core.List.{List, [], _∷_, _++_, map}
 use Prim.Native.Nat.{ℕ, zero, suc, _+_, _-_, _≤_, _<_}
 use native.Mathlib.Omega.{arith}
 use native.Mathlib.Decide.{decLe}
-use lib.IntN.{ℤ, pos, negsuc, _+ℤ_, _-ℤ_}
+use lib.IntN.{ℤ, pos, negsuc}
 use lib.Signed.{ltZ, _<ℤ_, _≤ℤ_}
 use lib.ListN.{take}
 use borrow.Author.Tests.{ne-eqb}
@@ -26,9 +26,9 @@ use Rattle.clearing.proofs.Pairs.{partners-weaker}
 
 -- ---- at least the price
 
--- a criterion that a price reaches: so does the pay
-reached-pay : (x s w p : ℕ) → ((pos x -ℤ pos s) +ℤ pos w) ≤ℤ pos p → x ≤ (p + s) - w
-reached-pay x s w p h = omega (arith, ints)
+-- where the marginal price reaches a criterion, the pay reaches the price
+reached-pay : (o : Offer) (d x p : ℕ) → criterion o d x ≤ℤ pos p → x ≤ pay o d p
+reached-pay o d x p h = omega (arith, ints)
 
 all-parts : {X : Type 0} (P : X → Type 0) (xs ys : List X) → All P (xs ++ ys) → All P xs × All P ys
 all-parts P [] ys h = (tt, h)
@@ -38,7 +38,7 @@ module _ (d p : ℕ) (o : Offer) where
   prices-reached : (q : ℕ) (xs : List ℕ) → All (λ c. c ≤ℤ pos p) (take q (map (criterion o d) xs)) → All (λ x. x ≤ pay o d p) (take q xs)
   prices-reached zero xs h = tt
   prices-reached (suc q) [] h = tt
-  prices-reached (suc q) (x ∷ xs) h = (reached-pay x (worth (o .short) d) (worth (o .observed) d) p (h .0), prices-reached q xs (h .1))
+  prices-reached (suc q) (x ∷ xs) h = (reached-pay o d x p (h .0), prices-reached q xs (h .1))
 
 own-price : (rr rc : ℕ) (product : Product) (cs : List ℤ) → All (λ c. c ≤ℤ pos rr) (cond (is-of Rapid product) cs []) → All (λ c. c ≤ℤ pos rc) (cond (is-of Complementary product) cs []) →
     All (λ c. c ≤ℤ pos (of-product rr rc product)) cs
@@ -63,8 +63,8 @@ units-paid R d t offers cover a h =
 -- ---- in full
 
 -- an observed MW whose mark is worth more than there is to take from has its criterion above the price
-lifted : (x s w p : ℕ) → p + s < w → pos p <ℤ ((pos x -ℤ pos s) +ℤ pos w)
-lifted x s w p h = omega (arith, ints)
+lifted : (o : Offer) (d x p : ℕ) → p + worth (o .short) d < worth (o .observed) d → pos p <ℤ criterion o d x
+lifted o d x p h = omega (arith, ints)
 
 above : (p : ℕ) (c : ℤ) → pos p <ℤ c → (ltZ c (pos p) ≡ false) × (equals p c ≡ false)
 above p (pos c) h = (grind (arith, ints), ne-eqb c p (omega (arith, ints)))
@@ -85,7 +85,7 @@ module _ (d t : ℕ) (prices : Product → ℕ) (o : Offer) (q : ℕ) where
     where
       wrong : prices (o .product) + worth (o .short) d < worth (o .observed) d → ⊥
       wrong less =
-          let up = λ (x : ℕ). above (prices (o .product)) (criterion o d x) (lifted x (worth (o .short) d) (worth (o .observed) d) (prices (o .product)) less) in
+          let up = λ (x : ℕ). above (prices (o .product)) (criterion o d x) (lifted o d x (prices (o .product)) less) in
           some-mw (o .floor) (under d t o (prices (o .product))) (at d t o (prices (o .product))) q h
           (none-counted (λ c. ltZ c (pos (prices (o .product)))) (criterion o d) (mw-prices t o) (λ x. up x .0))
           (none-counted (equals (prices (o .product))) (criterion o d) (mw-prices t o) (λ x. up x .1))
@@ -96,15 +96,12 @@ units-paid-whole R d t offers cover a h = partners-weaker _ _ (paid-whole d t (p
 
 -- ---- blocks
 
-lowered : (x s w q : ℕ) → ((pos x -ℤ pos s) +ℤ pos w) ≤ℤ pos q → w ≤ q + s
-lowered x s w q h = omega (arith, ints)
+lowered : (o : Offer) (d x p : ℕ) → criterion o d x ≤ℤ pos p → worth (o .observed) d ≤ p + worth (o .short) d
+lowered o d x p h = omega (arith, ints)
 
 block-paid-well : (R : Rule) (days : List ℕ) (awards : List (Award R)) (o : Offer) (b : Block) → Block-admitted R days awards o b → Block-well-paid days awards o b
 block-paid-well R days awards o none h = tt
-block-paid-well R days awards o (taken p) h = (
-  reached-pay p (worth (o .short) (total days)) (worth (o .observed) (total days)) (prices-sum awards (o .product)) h,
-  lowered p (worth (o .short) (total days)) (worth (o .observed) (total days)) (prices-sum awards (o .product)) h,
-)
+block-paid-well R days awards o (taken p) h = (reached-pay o (total days) p (prices-sum awards (o .product)) h, lowered o (total days) p (prices-sum awards (o .product)) h)
 block-paid-well R days awards o (other p) h = tt
 
 pub blocks-paid : (R : Rule) → Blocks-paid R
