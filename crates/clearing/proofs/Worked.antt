@@ -1,5 +1,5 @@
 -- The small tenders are as the table says: one test over all of them. Assumes nothing.
-use mathlib.Core.Path.{_≡_, sym, subst}
+use mathlib.Core.Path.{_≡_, refl, sym, subst}
 use mathlib.Core.Logic.{_⊎_, inl, inr}
 use mathlib.Core.List.{List, [], _∷_, _++_, map}
 use mathlib.Core.Bool.{Bool, true, false, not, cond, _&&_, _||_}
@@ -13,6 +13,8 @@ use Rattle.std.specs.declared.cmp.Ordering.the-variants.{Less, Equal, Greater}
 use Rattle.std.specs.declared.option.Option.{Option}
 use Rattle.std.specs.declared.option.Option.the-variants.{Some, None}
 use Rattle.std.specs.shelf.Lists.{All}
+use Rattle.calendar.specs.Opening.{opened}
+use Rattle.calendar.specs.Periods.{by-week}
 use Rattle.sheet.specs.Offer.{Offer, total}
 use Rattle.book.specs.Needs.{need-of}
 use Rattle.book.specs.declared.need.Need.{Need}
@@ -24,7 +26,7 @@ use Rattle.clearing.specs.Words.{together, each}
 use Rattle.clearing.specs.Criterion.{criterion}
 use Rattle.clearing.specs.Period.{joining, Award, Cover, Named, Nothing-admitted}
 use Rattle.clearing.specs.Month.{cover-of, choices, blocks, Block, none, taken, other, remaining, still, blocks-taken, MonthAward, prices-sum, Named-periods, Block-admitted, block-charges, block-paid, added-up, Admitted-month, Before-month}
-use Rattle.clearing.specs.Tenders.{Way, money-first, left-out-first, rule, Tender, period, month, Comes, Comes-month, Worked, tenders, Small-tenders}
+use Rattle.clearing.specs.Tenders.{Way, money-first, left-out-first, rule, Tender, period, month, Comes, Comes-month, Worked, tenders, Small-tenders, February-opens}
 use Rattle.clearing.proofs.Tests.{and-left, and-right, implied, every, every-all, all-member, lower, lower-told, same-list, same-list-is, partners, partners-is, partners-told}
 use Rattle.clearing.proofs.Judging.{Compares, whole-compares, pair-compares, same-cost, same-cost-is, before, before-told, admitted, admitted-is}
 use Rattle.clearing.proofs.Listing.{run, member-run, candidates, listed}
@@ -230,3 +232,7 @@ all-worked (c ∷ cs) s = (worked-by c (and-left (as-told c) (every as-told cs) 
 pub small-tenders : Small-tenders
 unfolding Small-tenders
 small-tenders = all-worked tenders tt
+
+pub february-opens : February-opens
+unfolding opened by-week
+february-opens = refl

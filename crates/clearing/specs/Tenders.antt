@@ -1,11 +1,14 @@
 -- The small tenders: what each offers and needs, and the award that it must have, or none. Assumes nothing.
+use mathlib.Core.Path.{_≡_}
 use mathlib.Core.List.{List, [], _∷_, _++_, map}
-use mathlib.Core.Bool.{Bool, true, false}
+use mathlib.Core.Bool.{true, false}
 use Prim.Native.Nat.{ℕ}
 use lib.ListN.{replicate}
 use Rattle.std.specs.declared.option.Option.{Option}
 use Rattle.std.specs.declared.option.Option.the-variants.{Some, None}
+use Rattle.std.specs.declared.result.Result.the-variants.{Ok}
 use Rattle.std.specs.shelf.Lists.{All}
+use Rattle.calendar.specs.Opening.{opened}
 use Rattle.sheet.specs.Offer.{Offer}
 use Rattle.sheet.specs.declared.product.Product.{Product}
 use Rattle.sheet.specs.declared.product.Product.the-variants.{Rapid, Complementary}
@@ -107,6 +110,10 @@ Worked (month way days needs offers award) = Comes-month (rule way) days offers 
 
 abbrev pub february-2021 : List ℕ
 february-2021 = 5 ∷ 2 ∷ 5 ∷ 2 ∷ 5 ∷ 2 ∷ 5 ∷ 2 ∷ []
+
+-- a tender of that month, with no holiday, has these days
+abbrev pub February-opens : Type 0
+February-opens = opened 2021 2 [] ≡ Ok february-2021
 
 -- A at these prices for a unit and for its block, B and C without a block
 abbrev pub with-block : (unit block : ℕ) → List Offer
