@@ -1,0 +1,13 @@
+pub mod Pairs
+pub mod Unique
+pub mod Once
+pub mod Prices
+pub mod Pays
+pub mod Lead
+pub mod Split
+pub mod Halving
+pub mod Choices
+pub mod Tests
+pub mod Judging
+pub mod Listing
+pub mod Worked
