@@ -9,6 +9,7 @@ mod others;
 mod places;
 mod standing;
 mod table;
+mod taken;
 
 pub use book::Book;
 pub use fault::RegisterFault;
@@ -22,3 +23,5 @@ pub use laws::one_answer;
 pub use laws::one_run;
 pub use need::Need;
 pub use table::MOST_OFFERS;
+pub use taken::Taken;
+pub use taken::TakenBook;
