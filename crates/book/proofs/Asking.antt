@@ -3,12 +3,11 @@ use mathlib.Core.Path.{_≡_, refl, sym, ap, _∙_}
 use mathlib.Core.Bool.{Bool, true, false, cond, _&&_}
 use mathlib.Core.List.{List, [], _∷_, map}
 use Prim.Native.Nat.{ℕ, zero, suc, _+_, _-_, _≤_}
-use native.Mathlib.Nat.{add-zero, zero-add, add-assoc}
 use native.Mathlib.Numerals.{add-one}
 use native.Mathlib.Omega.{arith}
 use lib.Dec.{leb}
 use lib.ListN.{getD, take}
-use Rattle.std.specs.Options.{isSome}
+use Rattle.std.specs.Options.{isSome, mapped, valueOr}
 use Rattle.std.specs.shelf.Maps.{nth}
 use Rattle.std.specs.declared.option.Option.{Option}
 use Rattle.std.specs.declared.option.Option.the-variants.{Some, None}
@@ -16,7 +15,8 @@ use Rattle.text.specs.Form.{_>>=_}
 use Rattle.sheet.specs.Offer.{Offer}
 use Rattle.book.specs.Book.{asked, block-asked, price-asked, width-asked}
 use Rattle.book.specs.Limits.{count, has-block}
-use Rattle.book.specs.Taken.{holds, withheld, takes-from, takes, taken-from, taken}
+use Rattle.book.specs.Taken.{holds, withheld, takes, taken}
+use Rattle.book.proofs.Withheld.{takes-it, left-of, taken-at, takes-at}
 
 -- ---- the blocks before a place
 
@@ -38,63 +38,74 @@ blocks-few [] (suc i) = omega arith
 blocks-few (o ∷ os) zero = omega arith
 blocks-few (o ∷ os) (suc i) = let few = blocks-few os i in omega arith
 
--- ---- whether an offer is taken
+flag-read : (flags : List Bool) (i : ℕ) → getD flags i false ≡ valueOr (nth flags i) false
+flag-read [] i = refl
+flag-read (b ∷ flags) zero = refl
+flag-read (b ∷ flags) (suc i) = flag-read flags i
 
-told-from : (place choice : ℕ) (offers : List Offer) (i : ℕ) → getD (takes-from place choice offers) i false ≡ (isSome (block-asked offers i) && holds choice (place + count has-block (take i offers)))
-told-from place choice [] i = refl
-told-from place choice (o ∷ os) zero = ap (λ p. has-block o && holds choice p) (sym (add-zero place))
-told-from place choice (o ∷ os) (suc i) = told-from (place + cond (has-block o) 1 0) choice os i ∙ ap (λ p. isSome (block-asked os i) && holds choice p) (add-assoc place (cond (has-block o) 1 0) (count has-block (take i os)))
+module _ (choice : ℕ) (offers : List Offer) (i : ℕ) where
+  abbrev before : ℕ
+  before = count has-block (take i offers)
 
--- by its block and the blocks before it
-taken-told : (choice : ℕ) (offers : List Offer) (i : ℕ) → getD (takes choice offers) i false ≡ (isSome (block-asked offers i) && holds choice (count has-block (take i offers)))
-taken-told choice offers i = told-from 0 choice offers i ∙ ap (λ p. isSome (block-asked offers i) && holds choice p) (zero-add (count has-block (take i offers)))
+  -- ---- whether an offer is taken, by its block and the blocks before it
 
-pub taken-with : (choice : ℕ) (offers : List Offer) (i before : ℕ) → isSome (block-asked offers i) ≡ true → before ≡ count has-block (take i offers) → holds choice before ≡ getD (takes choice offers) i false
-taken-with choice offers i before some before-is =
-    sym (taken-told choice offers i ∙ ap (λ b. b && holds choice (count has-block (take i offers))) some ∙ ap (holds choice) (sym before-is))
-
-pub taken-without : (choice : ℕ) (offers : List Offer) (i : ℕ) → isSome (block-asked offers i) ≡ false → false ≡ getD (takes choice offers) i false
-taken-without choice offers i none = sym (taken-told choice offers i ∙ ap (λ b. b && holds choice (count has-block (take i offers))) none)
-
--- ---- the answers
-
-module _ {A : Type 0} (q : Offer → Option A) where
-  kept-from : ((o : Offer) → q (withheld o) ≡ q o) → (place choice : ℕ) (offers : List Offer) (i : ℕ) → (nth (taken-from place choice offers) i >>= q) ≡ (nth offers i >>= q)
-  kept-from same place choice [] i = refl
-  kept-from same place choice (o ∷ os) zero = elim (has-block o && holds choice place) as (λ b. q (cond b (withheld o) o) ≡ q o) [ true ↦ same o | false ↦ refl ]
-  kept-from same place choice (o ∷ os) (suc i) = kept-from same (place + cond (has-block o) 1 0) choice os i
-
-  lost-from : ((o : Offer) → q (withheld o) ≡ None) → (place choice : ℕ) (offers : List Offer) (i : ℕ) → (nth (taken-from place choice offers) i >>= q) ≡ cond (getD (takes-from place choice offers) i false) None (nth offers i >>= q)
-  lost-from none place choice [] i = refl
-  lost-from none place choice (o ∷ os) zero = elim (has-block o && holds choice place) as (λ b. q (cond b (withheld o) o) ≡ cond b None (q o)) [ true ↦ none o | false ↦ refl ]
-  lost-from none place choice (o ∷ os) (suc i) = lost-from none (place + cond (has-block o) 1 0) choice os i
-
--- what a taken offer keeps is answered as before
-pub asked-kept : {A : Type 0} (fact : Offer → A) → ((o : Offer) → fact (withheld o) ≡ fact o) → (choice : ℕ) (offers : List Offer) (i : ℕ) → asked fact (taken choice offers) i ≡ asked fact offers i
-asked-kept fact same choice offers i = kept-from (λ o. Some (fact o)) (λ o. ap Some (same o)) 0 choice offers i
-
-pub width-kept : (choice : ℕ) (offers : List Offer) (i k : ℕ) → width-asked (taken choice offers) i k ≡ width-asked offers i k
-width-kept choice offers i k = kept-from (λ o. nth (o .widths) k) (λ o. refl) 0 choice offers i
-
--- its block is none
-pub block-lost : (choice : ℕ) (offers : List Offer) (i : ℕ) → block-asked (taken choice offers) i ≡ cond (getD (takes choice offers) i false) None (block-asked offers i)
-block-lost choice offers i = lost-from (λ o. o .block) (λ o. refl) 0 choice offers i
-
--- so is each price of it
-no-price : (rows : List (Option (List ℕ))) (j k : ℕ) → _≡_ {A = Option ℕ} (nth (map (λ _. None) rows) j >>= (λ row. row >>= (λ prices. nth prices k))) None
-no-price [] j k = refl
-no-price (r ∷ rows) zero k = refl
-no-price (r ∷ rows) (suc j) k = no-price rows j k
-
-module _ (i t k : ℕ) where
-  abbrev price : Offer → Option ℕ
-  price o = nth (o .rows) (t - 1) >>= (λ row. row >>= (λ prices. nth prices k))
-
-  pub price-lost : (choice : ℕ) (offers : List Offer) → price-asked (taken choice offers) i t k ≡ cond (getD (takes choice offers) i false) None (price-asked offers i t k)
-  price-lost choice offers =
-      ap (λ answer. cond (leb 1 t) answer None) (lost-from price (λ o. no-price (o .rows) (t - 1) k) 0 choice offers i) ∙ outside (leb 1 t) (getD (takes choice offers) i false)
+  told : getD (takes choice offers) i false ≡ (isSome (block-asked offers i) && holds choice before)
+  told = flag-read (takes choice offers) i ∙ ap (λ flag. valueOr flag false) (takes-at choice offers i) ∙ go (nth offers i)
     where
-      outside : (within lost : Bool) → cond within (cond lost None (nth offers i >>= price)) None ≡ cond lost None (cond within (nth offers i >>= price) None)
-      outside true lost = refl
-      outside false true = refl
-      outside false false = refl
+      go : (o : Option Offer) → valueOr (mapped (takes-it choice before) o) false ≡ (isSome (o >>= (λ o. o .block)) && holds choice before)
+      go None = refl
+      go (Some o) = refl
+
+  pub taken-with : (blocks : ℕ) → isSome (block-asked offers i) ≡ true → blocks ≡ before → holds choice blocks ≡ getD (takes choice offers) i false
+  taken-with blocks some blocks-are = sym (told ∙ ap (λ b. b && holds choice before) some ∙ ap (holds choice) (sym blocks-are))
+
+  pub taken-without : isSome (block-asked offers i) ≡ false → false ≡ getD (takes choice offers) i false
+  taken-without none = sym (told ∙ ap (λ b. b && holds choice before) none)
+
+  -- ---- the answers
+
+  module _ {A : Type 0} (q : Offer → Option A) where
+    kept : ((o : Offer) → q (withheld o) ≡ q o) → (nth (taken choice offers) i >>= q) ≡ (nth offers i >>= q)
+    kept same = ap (λ o. o >>= q) (taken-at choice offers i) ∙ go (nth offers i)
+      where
+        go : (o : Option Offer) → (mapped (left-of choice before) o >>= q) ≡ (o >>= q)
+        go None = refl
+        go (Some o) = elim (takes-it choice before o) as (λ b. q (cond b (withheld o) o) ≡ q o) [ true ↦ same o | false ↦ refl ]
+
+    lost : ((o : Offer) → q (withheld o) ≡ None) → (nth (taken choice offers) i >>= q) ≡ cond (getD (takes choice offers) i false) None (nth offers i >>= q)
+    lost none = ap (λ o. o >>= q) (taken-at choice offers i) ∙ go (nth offers i) ∙ ap (λ b. cond b None (nth offers i >>= q)) (sym told)
+      where
+        go : (o : Option Offer) → (mapped (left-of choice before) o >>= q) ≡ cond (isSome (o >>= (λ o. o .block)) && holds choice before) None (o >>= q)
+        go None = refl
+        go (Some o) = elim (takes-it choice before o) as (λ b. q (cond b (withheld o) o) ≡ cond b None (q o)) [ true ↦ none o | false ↦ refl ]
+
+  -- what a taken offer keeps is answered as before
+  pub asked-kept : {A : Type 0} (fact : Offer → A) → ((o : Offer) → fact (withheld o) ≡ fact o) → asked fact (taken choice offers) i ≡ asked fact offers i
+  asked-kept fact same = kept (λ o. Some (fact o)) (λ o. ap Some (same o))
+
+  pub width-kept : (k : ℕ) → width-asked (taken choice offers) i k ≡ width-asked offers i k
+  width-kept k = kept (λ o. nth (o .widths) k) (λ o. refl)
+
+  -- its block and its prices are none
+  pub block-left : (flag : Bool) → flag ≡ getD (takes choice offers) i false → cond flag None (block-asked offers i) ≡ block-asked (taken choice offers) i
+  block-left flag flag-is = ap (λ b. cond b None (block-asked offers i)) flag-is ∙ sym (lost (λ o. o .block) (λ o. refl))
+
+  module _ (t k : ℕ) where
+    abbrev price : Offer → Option ℕ
+    price o = nth (o .rows) (t - 1) >>= (λ row. row >>= (λ prices. nth prices k))
+
+    no-price : (rows : List (Option (List ℕ))) (j : ℕ) → _≡_ {A = Option ℕ} (nth (map (λ _. None) rows) j >>= (λ row. row >>= (λ prices. nth prices k))) None
+    no-price [] j = refl
+    no-price (r ∷ rows) zero = refl
+    no-price (r ∷ rows) (suc j) = no-price rows j
+
+    pub price-left : (flag : Bool) → flag ≡ getD (takes choice offers) i false → cond flag None (price-asked offers i t k) ≡ price-asked (taken choice offers) i t k
+    price-left flag flag-is =
+        outside (leb 1 t) flag
+        ∙ ap (λ b. cond (leb 1 t) (cond b None (nth offers i >>= price)) None) flag-is
+        ∙ ap (λ answer. cond (leb 1 t) answer None) (sym (lost price (λ o. no-price (o .rows) (t - 1))))
+      where
+        outside : (within flag : Bool) → cond flag None (cond within (nth offers i >>= price) None) ≡ cond within (cond flag None (nth offers i >>= price)) None
+        outside true flag = refl
+        outside false true = refl
+        outside false false = refl

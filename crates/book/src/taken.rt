@@ -19,6 +19,16 @@ pub struct Taken<'a, B> {
     choice: u32,
 }
 
+impl<'a, B> Taken<'a, B> {
+    /// The book that a choice of blocks leaves of another.
+    pub fn new(book: &'a B, choice: u32) -> Taken<'a, B>
+        ensures below { λ r. ⌜ now (r .book) ≡ now (book .entry) ⌝ }
+        ensures choice { λ r. ⌜ r .choice ≡ choice ⌝ }
+    {
+        Taken { book, choice }
+    }
+}
+
 /// How many of the offers before a place have a block.
 fn blocks_before<B: Book>(book: &B, offer: usize) -> u32
     ensures value { λ r. ⌜ r ≡ count has-block (take offer (B·Book .offers (now (book .entry)))) ⌝ }
@@ -33,21 +43,14 @@ fn blocks_before<B: Book>(book: &B, offer: usize) -> u32
     blocks
 }
 
-impl<'a, B> Taken<'a, B> {
-    /// The book that a choice of blocks leaves of another.
-    pub fn new(book: &'a B, choice: u32) -> Taken<'a, B>
-        ensures below { λ r. ⌜ now (r .book) ≡ now (book .entry) ⌝ }
-        ensures choice { λ r. ⌜ r .choice ≡ choice ⌝ }
+impl<'a, B: Book> Taken<'a, B> {
+    /// Whether the block of an offer is in the choice.
+    fn is_taken(&self, offer: usize) -> bool
+        ensures { λ r. ⌜ r ≡ getD (takes (now (self .entry) .choice) (B·Book .offers (now (now (self .entry) .book)))) offer false ⌝ }
     {
-        Taken { book, choice }
+        self.book.block(offer).is_some()
+            && (self.choice >> blocks_before(self.book, offer)) % 2 == 1
     }
-}
-
-/// Whether the block of an offer is in a choice.
-fn is_taken<B: Book>(book: &B, choice: u32, offer: usize) -> bool
-    ensures { λ r. ⌜ r ≡ getD (takes choice (B·Book .offers (now (book .entry)))) offer false ⌝ }
-{
-    book.block(offer).is_some() && (choice >> blocks_before(book, offer)) % 2 == 1
 }
 
 pub impl<'a, B: Book> Book for Taken<'a, B> as TakenBook {
@@ -106,18 +109,12 @@ pub impl<'a, B: Book> Book for Taken<'a, B> as TakenBook {
     }
 
     fn price(&self, offer: usize, period: usize, range: usize) -> Option<u32> {
-        if is_taken(self.book, self.choice, offer) {
-            None
-        } else {
-            self.book.price(offer, period, range)
-        }
+        let price = self.book.price(offer, period, range);
+        if self.is_taken(offer) { None } else { price }
     }
 
     fn block(&self, offer: usize) -> Option<u32> {
-        if is_taken(self.book, self.choice, offer) {
-            None
-        } else {
-            self.book.block(offer)
-        }
+        let block = self.book.block(offer);
+        if self.is_taken(offer) { None } else { block }
     }
 }

@@ -1,16 +1,12 @@
-use mathlib.Core.Bool.{cond}
-use mathlib.Core.Path.{sym, ap, _∙_}
-use Rattle.std.specs.declared.option.Option.the-variants.{None}
-use Rattle.book.specs.Book.{block-asked}
-use Rattle.book.proofs.Asking.{block-lost}
+use mathlib.Core.Bool.{true, false}
+use mathlib.Core.Path.{_∙_}
+use Rattle.book.proofs.Asking.{block-left}
 use Rattle.book.proofs.taken.TakenBook.block.Needs as need
 
 pub returns-then-is-taken : need.returns-then-is-taken
 returns-then-is-taken g c =
-    let offers = g .B·Book .offers (c .args .self .now .book .now) in
-    sym (block-lost (c .args .self .now .choice) offers (c .args .offer) ∙ ap (λ b. cond b None (block-asked offers (c .args .offer))) (sym (c .if-is-taken .ensures tt)))
+    block-left (c .args .self .now .choice) (g .B·Book .offers (c .args .self .now .book .now)) (c .args .offer) true (c .if-is-taken .ensures tt)
 
 pub returns-else-is-taken : need.returns-else-is-taken
 returns-else-is-taken g c =
-    let offers = g .B·Book .offers (c .args .self .now .book .now) in
-    c .block .ensures ∙ sym (block-lost (c .args .self .now .choice) offers (c .args .offer) ∙ ap (λ b. cond b None (block-asked offers (c .args .offer))) (sym (c .if-is-taken .ensures tt)))
+    c .block-block .ensures ∙ block-left (c .args .self .now .choice) (g .B·Book .offers (c .args .self .now .book .now)) (c .args .offer) false (c .if-is-taken .ensures tt)

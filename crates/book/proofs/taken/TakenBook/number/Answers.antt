@@ -3,4 +3,4 @@ use Rattle.book.proofs.Asking.{asked-kept}
 use Rattle.book.proofs.taken.TakenBook.number.Needs as need
 
 pub returns : need.returns
-returns g c = c .number .ensures ∙ sym (asked-kept (λ o. o .number) (λ _. refl) (c .args .self .now .choice) (g .B·Book .offers (c .args .self .now .book .now)) (c .args .offer))
+returns g c = c .number .ensures ∙ sym (asked-kept (c .args .self .now .choice) (g .B·Book .offers (c .args .self .now .book .now)) (c .args .offer) (λ o. o .number) (λ _. refl))
