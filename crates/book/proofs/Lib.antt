@@ -1,5 +1,6 @@
 pub mod Adding
 pub mod Allowed
+pub mod Asking
 pub mod Deposits
 mod Examples
 pub mod Finding

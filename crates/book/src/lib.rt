@@ -11,6 +11,7 @@ mod places;
 mod register;
 mod standing;
 mod table;
+mod taken;
 
 pub use book::Book;
 pub use fault::RegisterFault;
@@ -25,3 +26,5 @@ pub use laws::one_run;
 pub use need::Need;
 pub use register::Register;
 pub use table::MOST_OFFERS;
+pub use taken::Taken;
+pub use taken::TakenBook;

@@ -1,0 +1,6 @@
+use mathlib.Core.Path.{sym, refl, _∙_}
+use Rattle.book.proofs.Asking.{asked-kept}
+use Rattle.book.proofs.taken.TakenBook.number.Needs as need
+
+pub returns : need.returns
+returns g c = c .number .ensures ∙ sym (asked-kept (c .args .self .now .choice) (g .B·Book .offers (c .args .self .now .book .now)) (c .args .offer) (λ o. o .number) (λ _. refl))
