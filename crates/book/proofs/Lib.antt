@@ -2,6 +2,7 @@ pub mod Adding
 pub mod Allowed
 pub mod Asking
 pub mod Deposits
+pub mod InTurn
 mod Examples
 pub mod Finding
 pub mod Firsts

@@ -1,6 +1,7 @@
 pub mod Book
 pub mod Calls
 pub mod Deposit
+pub mod Entering
 pub mod Fault
 pub mod Limits
 pub mod Needs

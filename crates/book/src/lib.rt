@@ -1,6 +1,7 @@
 //! Books: lists of offers under one calendar. The register is the book that a clerk keeps.
 mod book;
 mod calls;
+mod entering;
 mod fault;
 mod judging;
 mod keeping;
