@@ -2,7 +2,8 @@
 use mathlib.Core.Path.{_≡_, refl, sym, ap, _∙_}
 use mathlib.Core.List.{List, map}
 use Prim.Native.Nat.{ℕ, _+_, _≤_}
-use lib.ListN.{length, take}
+use native.Mathlib.Omega.{arith}
+use lib.ListN.{length}
 use Rattle.std.proofs.shelf.Counted.{take-map-counting}
 use Rattle.std.specs.Iters.{counting}
 use Rattle.std.specs.declared.option.Option.{Option}
@@ -11,7 +12,7 @@ use Rattle.std.specs.declared.result.Result.the-variants.{Ok, Err}
 use Rattle.sheet.specs.declared.fault.SheetFault.{SheetFault}
 use Rattle.sheet.specs.Limits.{most-periods}
 use Rattle.sheet.specs.Offer.{Offer}
-use Rattle.sheet.specs.Read.{by-month, month-rows, read-by-month}
+use Rattle.sheet.specs.Read.{by-month, month-of, month-rows, read-by-month}
 use Rattle.sheet.specs.Sheet.{_>>=_, Head, head, Shape, shape-line, width-line, period-line, price-lines, block-line, row-of, offer-of, read}
 use Rattle.sheet.proofs.SheetKeeps.{periods-keep}
 
@@ -46,3 +47,7 @@ same-read T before text few =
     then-same (width-line (q .0 .ranges) (p .0 .floor) (before + 8) (q .1)) _ _ (λ w _.
     then-same (period-line T (q .0 .periods) (before + 9) (w .1)) _ _ (λ t e.
     same-prices T before few (p .0) (q .0) (w .0) (t .0) (t .1) (periods-keep T (q .0 .periods) (before + 9) (w .1) t e .long)))))
+
+-- a month of at most 11 periods is taken as it is
+pub month-is : (T : ℕ) → T ≤ most-periods → month-of T ≡ T
+month-is T few = omega arith

@@ -4,7 +4,6 @@ ghost use Prim.Native.Nat.{_^_, _<_, _≤_};
 ghost use lib.ListN.{length};
 ghost use mathlib.Core.List.{map};
 ghost use Rattle.std.specs.shelf.Lists.{All};
-ghost use Rattle.std.specs.shelf.Maps.{nth};
 ghost use Rattle.sheet.specs.Facts.{facts, name-of, numbers-of, row-facts};
 ghost use Rattle.sheet.specs.Limits.{longest-name, most-periods, most-ranges};
 use crate::product::Product;
@@ -104,18 +103,6 @@ impl PerRange {
         let numbers: &[u32] = &self.numbers;
         let count = self.count.min(numbers.len());
         &numbers[0..count]
-    }
-
-    /// The number of a range, counted from 0.
-    pub fn get(&self, range: usize) -> Option<u32>
-        ensures { λ r. ⌜ r ≡ nth (numbers-of (now (self .entry))) range ⌝ }
-    {
-        let numbers = self.as_slice();
-        if range < numbers.len() {
-            Some(numbers[range])
-        } else {
-            None
-        }
     }
 }
 

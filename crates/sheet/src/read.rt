@@ -66,7 +66,8 @@ fn read_lines<'a>(
 }
 
 /// Reads the sheet at the front of a text, in a month of so many periods and with so many lines before it, and tells what
-/// follows it. A month has at most 11 periods: more are taken for 11.
+/// follows it. A month has at most 11 periods: more are taken for 11. The lines before it are those of the sheets that
+/// stand in front of it in one text, which are far fewer than can be counted here.
 pub fn read_sheet<'a>(
     periods: usize,
     lines_before: u16,
