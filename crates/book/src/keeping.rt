@@ -1,11 +1,12 @@
 //! The calls on a register.
-ghost use mathlib.Core.List.{[]};
+ghost use mathlib.Core.List.{map};
 ghost use mathlib.Core.Path.{_≡_};
 ghost use Prim.Native.Nat.{_≤_};
 ghost use lib.ListN.{length};
 ghost use Rattle.std.specs.Vec.{made};
 ghost use Rattle.calendar.specs.Month.{day-counts};
 ghost use Rattle.sheet.specs.Sheet.{read-alone as read-alone-of};
+ghost use Rattle.sheet.specs.Facts.{facts};
 ghost use Rattle.book.specs.Fault.{of-sheet};
 ghost use Rattle.book.specs.Register.{answer-of, days-of, offer-read, periods-of, roll-of, save-answer-of};
 ghost use Rattle.book.specs.Roll.{new as new-roll};
@@ -116,5 +117,21 @@ impl Register {
         ensures buffer { λ r. ⌜ Buffer-after (save-answer-of (now (buffer .exit)) r) (now (buffer .entry)) (now (buffer .exit)) ⌝ }
     {
         self.table.save(name, number, buffer)
+    }
+}
+
+impl Register {
+    /// The offers that stand, in order.
+    pub fn standing(&self) -> &[Offer]
+        ensures { λ r. ⌜ map facts (now r) ≡ roll-of (now (self .entry)) .offers ⌝ }
+    {
+        self.table.as_slice()
+    }
+
+    /// The calendar of its month.
+    pub fn calendar(&self) -> &Calendar
+        ensures { λ r. ⌜ day-counts (now r) ≡ days-of (now (self .entry)) ⌝ }
+    {
+        &self.calendar
     }
 }

@@ -15,6 +15,7 @@ mod table;
 mod taken;
 
 pub use book::Book;
+pub use entering::DepositFault;
 pub use fault::RegisterFault;
 pub use laws::deposit_breaks;
 pub use laws::deposit_enters;

@@ -1,3 +1,4 @@
 mod Highs
 mod Numbers
 mod Rows
+mod Tenders

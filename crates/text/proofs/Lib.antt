@@ -8,4 +8,3 @@ pub mod Parts
 pub mod Prices
 pub mod Runs
 pub mod RunsBack
-pub mod Writes

@@ -1,4 +1,3 @@
-pub mod Buffers
 pub mod Form
 pub mod Judging
 pub mod Laws

@@ -7,7 +7,6 @@ mod number;
 mod price;
 mod run;
 mod values;
-mod writer;
 
 pub use digits::is_digit;
 pub use ends::field_end;
@@ -32,8 +31,3 @@ pub use price::price_field;
 pub use price::read_price;
 pub use values::MOST_FIELDS;
 pub use values::Values;
-pub use writer::decimal_len;
-pub use writer::price_len;
-pub use writer::put_byte;
-pub use writer::put_number;
-pub use writer::put_price;
