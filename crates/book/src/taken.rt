@@ -1,8 +1,10 @@
 //! Taken blocks: the book that a choice of blocks leaves.
-ghost use mathlib.Core.Bool.{false};
+ghost use mathlib.Core.Bool.{cond, false};
 ghost use mathlib.Core.Path.{_≡_};
-ghost use Prim.Native.Nat.{_≤_};
+ghost use Prim.Native.Nat.{ℕ, _≤_};
 ghost use lib.ListN.{getD, take};
+ghost use Rattle.std.specs.declared.option.Option.the-variants.{None};
+ghost use Rattle.book.specs.Book.{block-asked, price-asked};
 ghost use Rattle.book.specs.Limits.{count, has-block};
 ghost use Rattle.book.specs.Taken.{taken, taken-limits, takes};
 use crate::book::Book;
@@ -46,7 +48,9 @@ fn blocks_before<B: Book>(book: &B, offer: usize) -> u32
 impl<'a, B: Book> Taken<'a, B> {
     /// Whether the block of an offer is in the choice.
     fn is_taken(&self, offer: usize) -> bool
-        ensures { λ r. ⌜ r ≡ getD (takes (now (self .entry) .choice) (B·Book .offers (now (now (self .entry) .book)))) offer false ⌝ }
+        ensures value { λ r. ⌜ r ≡ getD (takes (now (self .entry) .choice) (B·Book .offers (now (now (self .entry) .book)))) offer false ⌝ }
+        ensures price { λ r. ⌜ ((t k : ℕ) → cond r None (price-asked (B·Book .offers (now (now (self .entry) .book))) offer t k) ≡ price-asked (taken (now (self .entry) .choice) (B·Book .offers (now (now (self .entry) .book)))) offer t k) ⌝ }
+        ensures block { λ r. ⌜ cond r None (block-asked (B·Book .offers (now (now (self .entry) .book))) offer) ≡ block-asked (taken (now (self .entry) .choice) (B·Book .offers (now (now (self .entry) .book)))) offer ⌝ }
     {
         self.book.block(offer).is_some()
             && (self.choice >> blocks_before(self.book, offer)) % 2 == 1
