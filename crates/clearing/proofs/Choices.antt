@@ -1,81 +1,92 @@
 -- Choices of blocks: what the choice of none leaves, and how many blocks a choice takes. Assumes nothing.
 use mathlib.Core.Path.{_≡_, refl, sym, ap, subst, _∙_}
-use mathlib.Core.Bool.{Bool, true, false, cond}
+use mathlib.Core.Bool.{Bool, true, false, cond, _&&_}
 use mathlib.Core.List.{List, [], _∷_}
-use Prim.Native.Nat.{ℕ, zero, suc, _+_, _-_, _/_, _%_, _^_, _<_}
+use Prim.Native.Nat.{ℕ, zero, suc, _+_, _*_, _/_, _%_, _^_, _<_}
 use native.Mathlib.Omega.{arith}
-use native.Mathlib.Nat.{pow-suc, zero-add}
-use native.Mathlib.Numerals.{one-add, unary-clauses}
+use native.Mathlib.Nat.{pow-suc, add-zero, zero-add, div-one, zero-div, div-div-eq-div-mul}
+use native.Mathlib.Numerals.{add-one, one-add, unary-clauses}
 use lib.Count.{ones, ones-step}
 use lib.Dec.{eqb}
 use borrow.Author.Tests.{eqb-true, eqb-false}
-use Rattle.std.specs.Options.{isSome}
-use Rattle.std.specs.declared.option.Option.{Option}
-use Rattle.std.specs.declared.option.Option.the-variants.{Some, None}
 use Rattle.sheet.specs.Offer.{Offer, width}
 use Rattle.sheet.specs.declared.product.Product.{Product}
 use Rattle.sheet.specs.declared.product.Product.the-variants.{Rapid, Complementary}
 use Rattle.book.specs.Limits.{count, is-of, has-block}
 use Rattle.book.specs.declared.need.Need.{Need}
+use Rattle.clearing.specs.Taken.{choices, holds, withheld, takes-from, taken-from}
 use Rattle.clearing.specs.Words.{each}
-use Rattle.clearing.specs.Month.{cover-of, taken, other, chosen, after, blocks, choices, is-taken, withheld, remaining, taken-mw, still, blocks-taken}
+use Rattle.clearing.specs.Period.{volume}
+use Rattle.clearing.specs.Month.{cover-of, taken-mw, still}
 use Rattle.clearing.specs.Laws.{None-taken, Ones-taken}
 
 -- ---- no block
 
-not-taken : (b : Option ℕ) → is-taken (chosen b 0) ≡ false
-not-taken None = refl
-not-taken (Some p) = refl
+none-held : (place : ℕ) → holds 0 place ≡ false
+none-held place = ap (λ n. eqb (n % 2) 1) (zero-div (2 ^ place))
 
-still-none : (b : Option ℕ) → after b 0 ≡ 0
-still-none None = refl
-still-none (Some p) = refl
+none-chosen : (b : Bool) (place : ℕ) → (b && holds 0 place) ≡ false
+none-chosen true place = none-held place
+none-chosen false place = refl
 
-book-kept : (offers : List Offer) → remaining offers 0 ≡ offers
-book-kept [] = refl
-book-kept (o ∷ os) =
-    λ i. cond (not-taken (o .block) i) (withheld o) o ∷ ((λ j. each (λ o b. cond (is-taken b) (withheld o) o) os (blocks (still-none (o .block) j) os)) ∙ book-kept os) i
+book-kept : (place : ℕ) (offers : List Offer) → taken-from place 0 offers ≡ offers
+book-kept place [] = refl
+book-kept place (o ∷ os) = λ i. cond (none-chosen (has-block o) place i) (withheld o) o ∷ book-kept (place + cond (has-block o) 1 0) os i
 
 nothing-if : (b : Bool) → cond {A = ℕ} b 0 0 ≡ 0
 nothing-if true = refl
 nothing-if false = refl
 
-no-mw : (product : Product) (offers : List Offer) → taken-mw offers 0 product ≡ 0
-no-mw product [] = refl
-no-mw product (o ∷ os) =
-    let e : cond (is-of product (o .product)) (cond (is-taken (chosen (o .block) 0)) (width o) 0) 0 ≡ 0 = ap (λ b. cond (is-of product (o .product)) (cond b (width o) 0) 0) (not-taken (o .block)) ∙ nothing-if (is-of product (o .product)) in
-    let f = ap (λ set. taken-mw os set product) (still-none (o .block)) ∙ no-mw product os in
+no-mw : (product : Product) (place : ℕ) (offers : List Offer) → volume product offers (each (λ o is-taken. cond is-taken (width o) 0) offers (takes-from place 0 offers)) ≡ 0
+no-mw product place [] = refl
+no-mw product place (o ∷ os) =
+    let e : cond (is-of product (o .product)) (cond (has-block o && holds 0 place) (width o) 0) 0 ≡ 0 = ap (λ b. cond (is-of product (o .product)) (cond b (width o) 0) 0) (none-chosen (has-block o) place) ∙ nothing-if (is-of product (o .product)) in
+    let f = no-mw product (place + cond (has-block o) 1 0) os in
     omega (arith, e, f)
 
 cover-kept : (offers : List Offer) (n : Need) → still offers 0 n ≡ cover-of n
-cover-kept offers n = simp (no-mw Rapid offers, no-mw Complementary offers, unary-clauses)
+cover-kept offers n = simp (no-mw Rapid 0 offers, no-mw Complementary 0 offers, unary-clauses)
 
 pub none-taken : None-taken
-none-taken offers n = (book-kept offers, cover-kept offers n)
+none-taken offers n = (book-kept 0 offers, cover-kept offers n)
 
 -- ---- ones
 
-one-digit : (p set : ℕ) → cond (is-taken (chosen (Some p) set)) 1 0 ≡ set % 2
-one-digit p set = by (eqb (set % 2) 1) refl
+one-digit : (n : ℕ) → cond (eqb (n % 2) 1) 1 0 ≡ n % 2
+one-digit n = by (eqb (n % 2) 1) refl
   where
-    by : (b : Bool) → eqb (set % 2) 1 ≡ b → cond (is-taken (cond b (taken p) (other p))) 1 0 ≡ set % 2
-    by true e = sym (eqb-true (set % 2) 1 e)
-    by false e = let h = eqb-false (set % 2) 1 e in omega arith
+    by : (b : Bool) → eqb (n % 2) 1 ≡ b → cond b 1 0 ≡ n % 2
+    by true e = sym (eqb-true (n % 2) 1 e)
+    by false e = let h = eqb-false (n % 2) 1 e in omega arith
 
 ones-zero : ones 0 ≡ 0
 unfolding ones
 ones-zero = refl
 
+-- the digits from a place on
+module _ (choice : ℕ) where
+  next-half : (place : ℕ) → choice / 2 ^ (place + 1) ≡ choice / 2 ^ place / 2
+  next-half place = rw (add-one, pow-suc 2 place) (sym (div-div-eq-div-mul choice (2 ^ place) 2))
+
+  ones-from : (place : ℕ) (offers : List Offer) → choice / 2 ^ place < choices offers → count (λ is-taken. is-taken) (takes-from place choice offers) ≡ ones (choice / 2 ^ place)
+  ones-from place [] h = let e : choice / 2 ^ place ≡ 0 = omega arith in sym (ap ones e ∙ ones-zero)
+  ones-from place (o ∷ os) h = by (has-block o) h (ones-from place os) (ones-from (place + 1) os)
+    where
+      by : (b : Bool) → choice / 2 ^ place < 2 ^ (cond b 1 0 + count has-block os) →
+          (choice / 2 ^ place < choices os → count (λ is-taken. is-taken) (takes-from place choice os) ≡ ones (choice / 2 ^ place)) →
+          (choice / 2 ^ (place + 1) < choices os → count (λ is-taken. is-taken) (takes-from (place + 1) choice os) ≡ ones (choice / 2 ^ (place + 1))) →
+          cond (b && holds choice place) 1 0 + count (λ is-taken. is-taken) (takes-from (place + cond b 1 0) choice os) ≡ ones (choice / 2 ^ place)
+      by true h here next =
+          let wide = pow-suc 2 (count has-block os) in
+          let h′ = subst (λ n. choice / 2 ^ place < 2 ^ n) (one-add (count has-block os)) h in
+          let half = next-half place in
+          let rest = next (omega (arith, wide, h′, half)) in
+          let halved = ap ones half in
+          omega (arith, one-digit (choice / 2 ^ place), rest, halved, ones-step (choice / 2 ^ place))
+      by false h here next =
+          zero-add (count (λ is-taken. is-taken) (takes-from (place + 0) choice os)) ∙ (ap (λ p. count (λ is-taken. is-taken) (takes-from p choice os)) (add-zero place) ∙ here (subst (λ n. choice / 2 ^ place < 2 ^ n) (zero-add (count has-block os)) h))
+
 pub ones-taken : Ones-taken
-ones-taken [] zero h = sym ones-zero
-ones-taken [] (suc n) h = absurd (omega arith)
-ones-taken (o ∷ os) set h = by (o .block) h (ones-taken os)
-  where
-    by : (b : Option ℕ) → set < 2 ^ (cond (isSome b) 1 0 + count has-block os) → ((next : ℕ) → next < choices os → blocks-taken os next ≡ ones next) →
-        cond (is-taken (chosen b set)) 1 0 + blocks-taken os (after b set) ≡ ones set
-    by None h rest = zero-add (blocks-taken os set) ∙ rest set (subst (λ n. set < 2 ^ n) (zero-add (count has-block os)) h)
-    by (Some p) h rest =
-        let wide = pow-suc 2 (count has-block os) in
-        let h′ = subst (λ n. set < 2 ^ n) (one-add (count has-block os)) h in
-        let half = rest (set / 2) (omega (arith, wide, h′)) in
-        omega (arith, one-digit p set, half, ones-step set)
+ones-taken offers choice h =
+    let e : choice / 2 ^ 0 ≡ choice = div-one choice in
+    ones-from choice 0 offers (subst (λ n. n < choices offers) (sym e) h) ∙ ap ones e

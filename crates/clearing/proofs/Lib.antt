@@ -7,7 +7,7 @@ pub mod Lead
 pub mod Split
 pub mod Halving
 pub mod Choices
-pub mod Tests
-pub mod Judging
-pub mod Listing
-pub mod Worked
+mod Tests
+mod Judging
+mod Listing
+mod Worked

@@ -20,7 +20,7 @@ use Rattle.cost.specs.Rule.{Rule}
 use Rattle.clearing.specs.Words.{Partners}
 use Rattle.clearing.specs.Criterion.{worth, criterion, pay, mw-prices, megawatts}
 use Rattle.clearing.specs.Period.{Award, of-product, price, Lawful, equals, under, at, accepted, Lawful-power}
-use Rattle.clearing.specs.Month.{Block, none, taken, other, blocks, prices-sum, Block-admitted}
+use Rattle.clearing.specs.Month.{Block, none, chosen, other, blocks, prices-sum, Block-admitted}
 use Rattle.clearing.specs.Laws.{Units-paid, Units-paid-whole, Block-well-paid, Blocks-paid}
 use Rattle.clearing.proofs.Pairs.{partners-weaker}
 
@@ -101,8 +101,8 @@ lowered o d x p h = omega (arith, ints)
 
 block-paid-well : (R : Rule) (days : List ℕ) (awards : List (Award R)) (o : Offer) (b : Block) → Block-admitted R days awards o b → Block-well-paid days awards o b
 block-paid-well R days awards o none h = tt
-block-paid-well R days awards o (taken p) h = (reached-pay o (total days) p (prices-sum awards (o .product)) h, lowered o (total days) p (prices-sum awards (o .product)) h)
+block-paid-well R days awards o (chosen p) h = (reached-pay o (total days) p (prices-sum awards (o .product)) h, lowered o (total days) p (prices-sum awards (o .product)) h)
 block-paid-well R days awards o (other p) h = tt
 
 pub blocks-paid : (R : Rule) → Blocks-paid R
-blocks-paid R days offers needs a h = partners-weaker (Block-admitted R days (a .periods)) (Block-well-paid days (a .periods)) (block-paid-well R days (a .periods)) offers (blocks (a .choice) offers) (h .blocks-admitted)
+blocks-paid R days offers needs a h = partners-weaker (Block-admitted R days (a .periods)) (Block-well-paid days (a .periods)) (block-paid-well R days (a .periods)) offers (blocks offers (a .choice)) (h .blocks-admitted)

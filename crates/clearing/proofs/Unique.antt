@@ -94,10 +94,10 @@ module _ (R : Rule) (days : List ℕ) (offers : List Offer) (needs : List Need) 
       p = same-periods (b .choice) 1 days (a .periods) (b .periods) (subst (λ v. Named-periods R days offers needs v 1 days (a .periods)) e (h .named)) (k .named)
 
       c : a .month-cost ≡ b .month-cost
-      c = h .costed ∙ ((λ i. joining R (map (λ p. p .cost) (p i) ++ together (each (block-charges R days (p i)) offers (blocks (e i) offers)))) ∙ sym (k .costed))
+      c = h .costed ∙ ((λ i. joining R (map (λ p. p .cost) (p i) ++ together (each (block-charges R days (p i)) offers (blocks offers (e i))))) ∙ sym (k .costed))
 
       q : a .month-pays ≡ b .month-pays
-      q = h .settled ∙ ((λ i. added-up (each (block-paid R days (p i)) offers (blocks (e i) offers)) (p i)) ∙ sym (k .settled))
+      q = h .settled ∙ ((λ i. added-up (each (block-paid R days (p i)) offers (blocks offers (e i))) (p i)) ∙ sym (k .settled))
 
   pub one-named-month : (a b : MonthAward R) → Named-month R days offers needs a → Named-month R days offers needs b → a ≡ b
   one-named-month a b n m = same-choice a b (n .admitted) (m .admitted) choice-same

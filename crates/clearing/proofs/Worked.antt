@@ -25,7 +25,8 @@ use Rattle.cost.proofs.Order.{not-same, not-both}
 use Rattle.clearing.specs.Words.{together, each}
 use Rattle.clearing.specs.Criterion.{criterion}
 use Rattle.clearing.specs.Period.{joining, Award, Cover, Named, Nothing-admitted}
-use Rattle.clearing.specs.Month.{cover-of, choices, blocks, Block, none, taken, other, remaining, still, blocks-taken, MonthAward, prices-sum, Named-periods, Block-admitted, block-charges, block-paid, added-up, Admitted-month, Before-month}
+use Rattle.clearing.specs.Taken.{choices}
+use Rattle.clearing.specs.Month.{cover-of, blocks, Block, none, chosen, other, remaining, still, blocks-taken, MonthAward, prices-sum, Named-periods, Block-admitted, block-charges, block-paid, added-up, Admitted-month, Before-month}
 use Rattle.clearing.specs.Tenders.{Way, money-first, left-out-first, rule, Tender, period, month, Comes, Comes-month, Worked, tenders, Small-tenders, February-opens}
 use Rattle.clearing.proofs.Tests.{and-left, and-right, implied, every, every-all, all-member, lower, lower-told, same-list, same-list-is, partners, partners-is, partners-told}
 use Rattle.clearing.proofs.Judging.{Compares, whole-compares, pair-compares, same-cost, same-cost-is, before, before-told, admitted, admitted-is}
@@ -69,7 +70,7 @@ first-of R K (a ∷ as′) = elim (first-of R K as′) [ None ↦ Some a | Some 
 
 abbrev pub block-ok : (R : Rule) (days : List ℕ) → List (Award R) → Offer → Block → Bool
 block-ok R days awards o none = true
-block-ok R days awards o (taken p) = leZ (criterion o (total days) p) (pos (prices-sum awards (o .product)))
+block-ok R days awards o (chosen p) = leZ (criterion o (total days) p) (pos (prices-sum awards (o .product)))
 block-ok R days awards o (other p) = true
 
 module _ (R : Rule) (K : Compares R) (days : List ℕ) (offers : List Offer) (needs : List Need) where
@@ -106,34 +107,34 @@ module _ (R : Rule) (K : Compares R) (days : List ℕ) (offers : List Offer) (ne
   made-month set awards = record {
     choice = set;
     periods = awards;
-    month-cost = joining R (map (λ p. p .cost) awards ++ together (each (block-charges R days awards) offers (blocks set offers)));
-    month-pays = added-up (each (block-paid R days awards) offers (blocks set offers)) awards;
+    month-cost = joining R (map (λ p. p .cost) awards ++ together (each (block-charges R days awards) offers (blocks offers set)));
+    month-pays = added-up (each (block-paid R days awards) offers (blocks offers set)) awards;
   }
 
   block-told : (awards : List (Award R)) (o : Offer) (b : Block) → Block-admitted R days awards o b → T (block-ok R days awards o b)
   block-told awards o none h = tt
-  block-told awards o (taken p) h = h .le
+  block-told awards o (chosen p) h = h .le
   block-told awards o (other p) h = tt
 
   block-is : (awards : List (Award R)) (o : Offer) (b : Block) → T (block-ok R days awards o b) → Block-admitted R days awards o b
   block-is awards o none s = tt
-  block-is awards o (taken p) s = record { le = s }
+  block-is awards o (chosen p) s = record { le = s }
   block-is awards o (other p) s = tt
 
   -- every choice that is admitted passes the test
   abbrev pub all-choices : (MonthAward R → Bool) → Bool
   all-choices test =
-      every (λ set. with-periods set 1 days (λ awards. not (partners (block-ok R days awards) offers (blocks set offers)) || test (made-month set awards))) (run 0 (choices offers))
+      every (λ set. with-periods set 1 days (λ awards. not (partners (block-ok R days awards) offers (blocks offers set)) || test (made-month set awards))) (run 0 (choices offers))
 
   all-choices-is : (test : MonthAward R → Bool) → T (all-choices test) → (b : MonthAward R) → Admitted-month R days offers needs b → T (test b)
   all-choices-is test s b h =
-      let at-set = all-member (λ set. T (with-periods set 1 days (λ awards. not (partners (block-ok R days awards) offers (blocks set offers)) || test (made-month set awards))))
+      let at-set = all-member (λ set. T (with-periods set 1 days (λ awards. not (partners (block-ok R days awards) offers (blocks offers set)) || test (made-month set awards))))
       (member-run 0 (choices offers) (b .choice) (omega arith) (omega (arith, h .choice-of-these)))
-      (every-all (λ set. with-periods set 1 days (λ awards. not (partners (block-ok R days awards) offers (blocks set offers)) || test (made-month set awards))) (run 0 (choices offers)) s) in
-      let passed = with-periods-is (b .choice) 1 days (λ awards. not (partners (block-ok R days awards) offers (blocks (b .choice) offers)) || test (made-month (b .choice) awards)) at-set (b .periods) (h .named) in
+      (every-all (λ set. with-periods set 1 days (λ awards. not (partners (block-ok R days awards) offers (blocks offers set)) || test (made-month set awards))) (run 0 (choices offers)) s) in
+      let passed = with-periods-is (b .choice) 1 days (λ awards. not (partners (block-ok R days awards) offers (blocks offers (b .choice))) || test (made-month (b .choice) awards)) at-set (b .periods) (h .named) in
       subst (λ v. T (test v)) (sym same)
-      (implied (partners (block-ok R days (b .periods)) offers (blocks (b .choice) offers)) (test (made-month (b .choice) (b .periods))) passed
-      (partners-told (block-ok R days (b .periods)) (Block-admitted R days (b .periods)) (block-told (b .periods)) offers (blocks (b .choice) offers) (h .blocks-admitted)))
+      (implied (partners (block-ok R days (b .periods)) offers (blocks offers (b .choice))) (test (made-month (b .choice) (b .periods))) passed
+      (partners-told (block-ok R days (b .periods)) (Block-admitted R days (b .periods)) (block-told (b .periods)) offers (blocks offers (b .choice)) (h .blocks-admitted)))
     where
       same : b ≡ made-month (b .choice) (b .periods)
       same i = record { choice = b .choice; periods = b .periods; month-cost = h .costed i; month-pays = h .settled i }
@@ -157,7 +158,7 @@ module _ (R : Rule) (K : Compares R) (days : List ℕ) (offers : List Offer) (ne
   admitted-month a =
       ltb (a .choice) (choices offers)
       && (are-named (a .choice) 1 days (a .periods)
-      && (partners (block-ok R days (a .periods)) offers (blocks (a .choice) offers)
+      && (partners (block-ok R days (a .periods)) offers (blocks offers (a .choice))
       && (same-cost R K (a .month-cost) (made-month (a .choice) (a .periods) .month-cost)
       && same-list (a .month-pays) (made-month (a .choice) (a .periods) .month-pays))))
 
@@ -165,13 +166,13 @@ module _ (R : Rule) (K : Compares R) (days : List ℕ) (offers : List Offer) (ne
   admitted-month-is a s0 =
       let s1 = and-right (ltb (a .choice) (choices offers)) _ s0 in
       let s2 = and-right (are-named (a .choice) 1 days (a .periods)) _ s1 in
-      let s3 = and-right (partners (block-ok R days (a .periods)) offers (blocks (a .choice) offers)) _ s2 in
+      let s3 = and-right (partners (block-ok R days (a .periods)) offers (blocks offers (a .choice))) _ s2 in
       let s4 = and-right (same-cost R K (a .month-cost) (made-month (a .choice) (a .periods) .month-cost)) _ s3 in
       record {
         choice-of-these = ltb→lt (a .choice) (choices offers) (and-left (ltb (a .choice) (choices offers)) _ s0);
         named = are-named-is (a .choice) 1 days (a .periods) (and-left (are-named (a .choice) 1 days (a .periods)) _ s1);
-        blocks-admitted = partners-is (block-ok R days (a .periods)) (Block-admitted R days (a .periods)) (block-is (a .periods)) offers (blocks (a .choice) offers)
-            (and-left (partners (block-ok R days (a .periods)) offers (blocks (a .choice) offers)) _ s2);
+        blocks-admitted = partners-is (block-ok R days (a .periods)) (Block-admitted R days (a .periods)) (block-is (a .periods)) offers (blocks offers (a .choice))
+            (and-left (partners (block-ok R days (a .periods)) offers (blocks offers (a .choice))) _ s2);
         costed = same-cost-is R K (a .month-cost) (made-month (a .choice) (a .periods) .month-cost) (and-left (same-cost R K (a .month-cost) (made-month (a .choice) (a .periods) .month-cost)) _ s3);
         settled = same-list-is (a .month-pays) (made-month (a .choice) (a .periods) .month-pays) s4;
       }

@@ -14,10 +14,11 @@ use Rattle.sheet.specs.declared.product.Product.the-variants.{Rapid, Complement
 use Rattle.book.specs.declared.need.Need.{Need}
 use Rattle.cost.specs.Rule.{Rule}
 use Rattle.clearing.specs.declared.fault.ClearingFault.{ClearingFault}
+use Rattle.clearing.specs.Taken.{choices, taken}
 use Rattle.clearing.specs.Words.{Partners, Some-partner}
 use Rattle.clearing.specs.Criterion.{worth, pay, mw-prices, megawatts}
 use Rattle.clearing.specs.Period.{Award, price, Cover, part, Whole, whole-cost, Admitted, Named}
-use Rattle.clearing.specs.Month.{cover-of, Block, none, taken, other, choices, blocks, remaining, still, blocks-taken, MonthAward, prices-sum, Admitted-month, Named-month}
+use Rattle.clearing.specs.Month.{cover-of, Block, none, chosen, other, blocks, blocks-taken, still, MonthAward, prices-sum, Admitted-month, Named-month}
 use Rattle.clearing.specs.Answer.{PeriodAnswer, MonthAnswer}
 use Rattle.clearing.specs.Halves.{First, beside, Half, half-cost}
 
@@ -66,14 +67,14 @@ Units-paid-whole R =
 -- a taken block is paid at least its price, and in full
 abbrev pub Block-well-paid : {R : Rule} → (days : List ℕ) → List (Award R) → Offer → Block → Type 0
 Block-well-paid days awards o none = Unit {0}
-Block-well-paid days awards o (taken p) =
+Block-well-paid days awards o (chosen p) =
     (p ≤ pay o (total days) (prices-sum awards (o .product))) × (worth (o .observed) (total days) ≤ prices-sum awards (o .product) + worth (o .short) (total days))
 Block-well-paid days awards o (other p) = Unit {0}
 
 abbrev pub Blocks-paid : Rule → Type 0
 Blocks-paid R =
     (days : List ℕ) (offers : List Offer) (needs : List Need) (a : MonthAward R) → Admitted-month R days offers needs a →
-    Partners (Block-well-paid days (a .periods)) offers (blocks (a .choice) offers)
+    Partners (Block-well-paid days (a .periods)) offers (blocks offers (a .choice))
 
 -- ---- halves, at the prices rr and rc and the volumes v and w
 
@@ -115,8 +116,8 @@ Named-splits R =
 
 -- where no block is taken, the book and what is to be covered are the period's own
 abbrev pub None-taken : Type 0
-None-taken = (offers : List Offer) (n : Need) → (remaining offers 0 ≡ offers) × (still offers 0 n ≡ cover-of n)
+None-taken = (offers : List Offer) (n : Need) → (taken 0 offers ≡ offers) × (still offers 0 n ≡ cover-of n)
 
 -- as many blocks are taken as the set number has ones
 abbrev pub Ones-taken : Type 0
-Ones-taken = (offers : List Offer) (set : ℕ) → set < choices offers → blocks-taken offers set ≡ ones set
+Ones-taken = (offers : List Offer) (choice : ℕ) → choice < choices offers → blocks-taken offers choice ≡ ones choice

@@ -3,20 +3,20 @@ use mathlib.Core.Path.{_≡_}
 use mathlib.Core.Logic.{_⊎_}
 use mathlib.Core.List.{List, [], _∷_, _++_, map}
 use mathlib.Core.Bool.{Bool, true, false, cond}
-use Prim.Native.Nat.{ℕ, _+_, _-_, _*_, _/_, _%_, _^_, _<_}
+use Prim.Native.Nat.{ℕ, _+_, _-_, _*_, _<_}
 use lib.IntN.{pos}
 use lib.Signed.{ltZ, _≤ℤ_}
-use lib.Dec.{eqb}
 use lib.ListN.{getD}
 use Rattle.std.specs.declared.option.Option.{Option}
 use Rattle.std.specs.declared.option.Option.the-variants.{Some, None}
 use Rattle.sheet.specs.Offer.{Offer, total, width}
 use Rattle.sheet.specs.declared.product.Product.{Product}
 use Rattle.sheet.specs.declared.product.Product.the-variants.{Rapid, Complementary}
-use Rattle.book.specs.Limits.{count, has-block}
+use Rattle.book.specs.Limits.{count}
 use Rattle.book.specs.Needs.{need-of}
 use Rattle.book.specs.declared.need.Need.{Need}
 use Rattle.cost.specs.Rule.{Rule}
+use Rattle.clearing.specs.Taken.{choices, takes, taken}
 use Rattle.clearing.specs.Words.{together, each, Partners}
 use Rattle.clearing.specs.Criterion.{criterion, pay}
 use Rattle.clearing.specs.Period.{joining, Award, price, Cover, volume, Named, Nothing-admitted}
@@ -30,61 +30,33 @@ cover-of n = record { rr = n .rapid; both = n .rapid + n .complementary }
 -- what a choice makes of an offer's block, with its price
 pub data Block : Type 0 where
   none : Block
-  taken : (price : ℕ) → Block
+  chosen : (price : ℕ) → Block
   other : (price : ℕ) → Block
 
--- a choice is a set number, below 2 ^ (number of blocks)
-abbrev pub choices : List Offer → ℕ
-choices offers = 2 ^ count has-block offers
+abbrev pub block-of : Option ℕ → (is-taken : Bool) → Block
+block-of None is-taken = none
+block-of (Some p) true = chosen p
+block-of (Some p) false = other p
 
--- the lowest binary digit says whether a block is taken, and the next one is for the next block in book order
-abbrev pub chosen : Option ℕ → (set : ℕ) → Block
-chosen None set = none
-chosen (Some p) set = cond (eqb (set % 2) 1) (taken p) (other p)
-
-abbrev pub after : Option ℕ → (set : ℕ) → ℕ
-after None set = set
-after (Some p) set = set / 2
-
--- what the choice makes of each offer
-abbrev pub blocks : (set : ℕ) → List Offer → List Block
-blocks set [] = []
-blocks set (o ∷ os) = chosen (o .block) set ∷ blocks (after (o .block) set) os
-
-abbrev pub is-taken : Block → Bool
-is-taken none = false
-is-taken (taken p) = true
-is-taken (other p) = false
-
--- a taken offer keeps its place, but is offered in no period and has no block
-abbrev pub withheld : Offer → Offer
-withheld o = record {
-  name = o .name;
-  number = o .number;
-  floor = o .floor;
-  product = o .product;
-  observed = o .observed;
-  short = o .short;
-  widths = o .widths;
-  rows = map (λ _. None) (o .rows);
-  block = None;
-}
-
-module _ (offers : List Offer) (set : ℕ) where
-  -- the book of taken blocks
+module _ (offers : List Offer) (choice : ℕ) where
+  -- what the periods' own awards are named from
   abbrev pub remaining : List Offer
-  remaining = each (λ o b. cond (is-taken b) (withheld o) o) offers (blocks set offers)
+  remaining = taken choice offers
+
+  -- what the choice makes of each offer
+  abbrev pub blocks : List Block
+  blocks = each (λ o is-taken. block-of (o .block) is-taken) offers (takes choice offers)
+
+  abbrev pub blocks-taken : ℕ
+  blocks-taken = count (λ is-taken. is-taken) (takes choice offers)
 
   -- MW of the taken blocks of a product
   abbrev pub taken-mw : Product → ℕ
-  taken-mw product = volume product offers (each (λ o b. cond (is-taken b) (width o) 0) offers (blocks set offers))
+  taken-mw product = volume product offers (each (λ o is-taken. cond is-taken (width o) 0) offers (takes choice offers))
 
   -- what the periods' own awards have still to cover: RR blocks serve the RR need and both needs together, RC blocks only these
   abbrev pub still : Need → Cover
   still n = record { rr = n .rapid - taken-mw Rapid; both = (n .rapid + n .complementary) - (taken-mw Rapid + taken-mw Complementary) }
-
-  abbrev pub blocks-taken : ℕ
-  blocks-taken = count is-taken (blocks set offers)
 
 -- ---- the award
 
@@ -110,18 +82,18 @@ module _ (R : Rule) (days : List ℕ) (awards : List (Award R)) where
   -- a taken block's criterion over all days may equal the sum, and not exceed it
   abbrev pub Block-admitted : Offer → Block → Type 0
   Block-admitted o none = Unit {0}
-  Block-admitted o (taken p) = criterion o (total days) p ≤ℤ pos (prices-sum awards (o .product))
+  Block-admitted o (chosen p) = criterion o (total days) p ≤ℤ pos (prices-sum awards (o .product))
   Block-admitted o (other p) = Unit {0}
 
   -- a taken block is charged in each period, any other once, with its MW left out if its criterion is below the sum
   abbrev pub block-charges : Offer → Block → List (R .Meaning)
   block-charges o none = []
-  block-charges o (taken p) = map (λ a. R .charged (price a (o .product)) (width o) 0) awards
+  block-charges o (chosen p) = map (λ a. R .charged (price a (o .product)) (width o) 0) awards
   block-charges o (other p) = R .charged 0 0 (cond (ltZ (criterion o (total days) p) (pos (prices-sum awards (o .product)))) (width o) 0) ∷ []
 
   abbrev pub block-paid : Offer → Block → ℕ
   block-paid o none = 0
-  block-paid o (taken p) = width o * pay o (total days) (prices-sum awards (o .product))
+  block-paid o (chosen p) = width o * pay o (total days) (prices-sum awards (o .product))
   block-paid o (other p) = 0
 
 -- cheaper; of equal cost, fewer blocks; of as many, the smaller set number
@@ -133,22 +105,22 @@ Before-month {R} offers a b =
 
 module _ (R : Rule) (days : List ℕ) (offers : List Offer) (needs : List Need) where
   -- the award named for period t of d days from the book that the choice leaves
-  abbrev pub Named-period : (set d t : ℕ) → Award R → Type 0
-  Named-period set d t a = Named d t (remaining offers set) R (still offers set (need-of needs t)) a
+  abbrev pub Named-period : (choice d t : ℕ) → Award R → Type 0
+  Named-period choice d t a = Named d t (remaining offers choice) R (still offers choice (need-of needs t)) a
 
   -- so for each of these periods, from t on
-  abbrev pub Named-periods : (set t : ℕ) → List ℕ → List (Award R) → Type 0
-  Named-periods set t [] [] = Unit {0}
-  Named-periods set t [] (a ∷ as′) = ⊥
-  Named-periods set t (d ∷ ds) [] = ⊥
-  Named-periods set t (d ∷ ds) (a ∷ as′) = Named-period set d t a × Named-periods set (t + 1) ds as′
+  abbrev pub Named-periods : (choice t : ℕ) → List ℕ → List (Award R) → Type 0
+  Named-periods choice t [] [] = Unit {0}
+  Named-periods choice t [] (a ∷ as′) = ⊥
+  Named-periods choice t (d ∷ ds) [] = ⊥
+  Named-periods choice t (d ∷ ds) (a ∷ as′) = Named-period choice d t a × Named-periods choice (t + 1) ds as′
 
   pub record Admitted-month (a : MonthAward R) : Type 0 where
     pub choice-of-these : a .choice < choices offers
     pub named : Named-periods (a .choice) 1 days (a .periods)
-    pub blocks-admitted : Partners (Block-admitted R days (a .periods)) offers (blocks (a .choice) offers)
-    pub costed : a .month-cost ≡ joining R (map (λ p. p .cost) (a .periods) ++ together (each (block-charges R days (a .periods)) offers (blocks (a .choice) offers)))
-    pub settled : a .month-pays ≡ added-up (each (block-paid R days (a .periods)) offers (blocks (a .choice) offers)) (a .periods)
+    pub blocks-admitted : Partners (Block-admitted R days (a .periods)) offers (blocks offers (a .choice))
+    pub costed : a .month-cost ≡ joining R (map (λ p. p .cost) (a .periods) ++ together (each (block-charges R days (a .periods)) offers (blocks offers (a .choice))))
+    pub settled : a .month-pays ≡ added-up (each (block-paid R days (a .periods)) offers (blocks offers (a .choice))) (a .periods)
 
   pub record Named-month (a : MonthAward R) : Type 0 where
     pub admitted : Admitted-month a
