@@ -1,6 +1,7 @@
 pub mod Adding
 pub mod Allowed
 pub mod Deposits
+pub mod Ends
 mod Examples
 pub mod Finding
 pub mod Firsts
@@ -13,6 +14,7 @@ pub mod Longer
 pub mod Once
 pub mod Parts
 pub mod Placed
+pub mod Reading
 mod RunExamples
 pub mod Sums
 pub mod Withheld

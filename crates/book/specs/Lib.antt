@@ -4,6 +4,8 @@ pub mod Deposit
 pub mod Fault
 pub mod Limits
 pub mod Needs
+pub mod Places
+pub mod Reading
 pub mod Roll
 pub mod Runs
 pub mod Step

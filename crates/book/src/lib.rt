@@ -1,16 +1,22 @@
 //! Books: lists of offers under one calendar. The register is the book that a clerk keeps.
 mod book;
 mod calls;
+mod deposit;
+mod depositing;
 mod fault;
 mod judging;
 mod laws;
 mod need;
 mod others;
 mod places;
+mod sheets;
 mod standing;
+mod starts;
 mod table;
+mod unread;
 
 pub use book::Book;
+pub use deposit::Deposit;
 pub use fault::RegisterFault;
 pub use laws::deposit_breaks;
 pub use laws::deposit_enters;
@@ -22,3 +28,6 @@ pub use laws::one_answer;
 pub use laws::one_run;
 pub use need::Need;
 pub use table::MOST_OFFERS;
+pub use unread::DepositFault;
+pub use unread::DepositFaultFromAlloc;
+pub use unread::DepositFaultFromRegister;
