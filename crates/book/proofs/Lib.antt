@@ -5,6 +5,7 @@ pub mod Ends
 mod Examples
 pub mod Finding
 pub mod Firsts
+pub mod Fronts
 pub mod Halved
 pub mod Known
 pub mod Later

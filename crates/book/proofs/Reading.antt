@@ -6,7 +6,7 @@ use Prim.Native.Nat.{ℕ, zero, suc, _+_, _-_, _*_, _≤_, _<_}
 use native.Mathlib.Nat.{min-eq-left}
 use native.Mathlib.Omega.{arith}
 use lib.Dec.{leb}
-use lib.ListN.{length, getD, drop, length-append}
+use lib.ListN.{length, drop, length-append}
 use Rattle.std.proofs.shelf.Lists.{map-append}
 use Rattle.std.proofs.shelf.Tests.{and-parts, leb-true, le-leb}
 use Rattle.std.specs.declared.result.Result.{Result}
@@ -81,24 +81,19 @@ module _ (T : ℕ) (text : List ℕ) (place : ℕ) where
     unfolding offer-at
     offer-there = ap offer-read e
 
-  pub begins-not : (fault : SheetFault) → read T 0 (drop place text) ≡ Err fault → begins T text place ≡ true → ⊥
+  pub begins-so : begins T text place ≡ true → (s : Offer × List ℕ) × (read T 0 (drop place text) ≡ Ok s)
   unfolding begins
-  begins-not fault e h =
-      let a : was-read (read T 0 (drop place text)) ≡ true = and-parts (leb place (length text)) (was-read (read T 0 (drop place text))) h .1 in
-      let b : was-read (read T 0 (drop place text)) ≡ false = ap was-read e in
-      let z : _≡_ {A = ℕ} 0 1 = cc in
-      omega arith
+  begins-so h = go (read T 0 (drop place text)) refl (and-parts (leb place (length text)) (was-read (read T 0 (drop place text))) h .1)
+    where
+      go : (r : Result (Offer × List ℕ) SheetFault) → read T 0 (drop place text) ≡ r → was-read r ≡ true → (s : Offer × List ℕ) × (read T 0 (drop place text) ≡ Ok s)
+      go (Ok s) e h = (s, e)
+      go (Err fault) e h = let z : _≡_ {A = ℕ} 0 1 = cc in absurd (omega arith)
 
 pub every-push : {X : Type 0} (test : X → Bool) (xs : List X) (x : X) → every test xs ≡ true → test x ≡ true → every test (xs ++ (x ∷ [])) ≡ true
 every-push test [] x h k = ap (λ b. b && true) k
 every-push test (y ∷ xs) x h k =
     let p = and-parts (test y) (every test xs) h in
     ap (λ b. b && every test (xs ++ (x ∷ []))) (p .0) ∙ every-push test xs x (p .1) k
-
-pub every-at : (test : ℕ → Bool) (xs : List ℕ) (i : ℕ) → every test xs ≡ true → i < length xs → test (getD xs i 0) ≡ true
-every-at test [] i h k = absurd (omega arith)
-every-at test (x ∷ xs) zero h k = and-parts (test x) (every test xs) h .0
-every-at test (x ∷ xs) (suc i) h k = every-at test xs i (and-parts (test x) (every test xs) h .1) (omega arith)
 
 -- ---- one turn
 

@@ -1,4 +1,5 @@
 //! Books: lists of offers under one calendar. The register is the book that a clerk keeps.
+mod asking;
 mod book;
 mod calls;
 mod deposit;
@@ -15,6 +16,7 @@ mod starts;
 mod table;
 mod unread;
 
+pub use asking::DepositBook;
 pub use book::Book;
 pub use deposit::Deposit;
 pub use fault::RegisterFault;
