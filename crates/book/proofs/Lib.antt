@@ -3,9 +3,11 @@ pub mod Allowed
 pub mod Asking
 pub mod Deposits
 pub mod InTurn
+pub mod Ends
 mod Examples
 pub mod Finding
 pub mod Firsts
+pub mod Fronts
 pub mod Halved
 pub mod Keeps
 pub mod Known
@@ -17,6 +19,7 @@ pub mod Once
 pub mod Opened
 pub mod Parts
 pub mod Placed
+pub mod Reading
 mod RunExamples
 pub mod Saving
 pub mod Steps

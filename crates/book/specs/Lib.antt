@@ -6,6 +6,8 @@ pub mod Fault
 pub mod Limits
 pub mod Needs
 pub mod Register
+pub mod Places
+pub mod Reading
 pub mod Roll
 pub mod Runs
 pub mod Step

@@ -1,7 +1,10 @@
 //! Books: lists of offers under one calendar. The register is the book that a clerk keeps.
+mod asking;
 mod book;
 mod calls;
 mod entering;
+mod deposit;
+mod depositing;
 mod fault;
 mod judging;
 mod keeping;
@@ -10,12 +13,17 @@ mod need;
 mod others;
 mod places;
 mod register;
+mod sheets;
 mod standing;
+mod starts;
 mod table;
 mod taken;
+mod unread;
 
+pub use asking::DepositBook;
 pub use book::Book;
 pub use entering::DepositFault;
+pub use deposit::Deposit;
 pub use fault::RegisterFault;
 pub use laws::deposit_breaks;
 pub use laws::deposit_enters;
@@ -30,3 +38,6 @@ pub use register::Register;
 pub use table::MOST_OFFERS;
 pub use taken::Taken;
 pub use taken::TakenBook;
+pub use unread::DepositFault;
+pub use unread::DepositFaultFromAlloc;
+pub use unread::DepositFaultFromRegister;
