@@ -2,13 +2,13 @@ pub mod Adding
 pub mod Allowed
 pub mod Asking
 pub mod Deposits
-pub mod InTurn
 pub mod Ends
 mod Examples
 pub mod Finding
 pub mod Firsts
 pub mod Fronts
 pub mod Halved
+pub mod InTurn
 pub mod Keeps
 pub mod Known
 pub mod Later

@@ -5,9 +5,9 @@ pub mod Entering
 pub mod Fault
 pub mod Limits
 pub mod Needs
-pub mod Register
 pub mod Places
 pub mod Reading
+pub mod Register
 pub mod Roll
 pub mod Runs
 pub mod Step

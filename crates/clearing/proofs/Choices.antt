@@ -14,7 +14,7 @@ use Rattle.sheet.specs.declared.product.Product.{Product}
 use Rattle.sheet.specs.declared.product.Product.the-variants.{Rapid, Complementary}
 use Rattle.book.specs.Limits.{count, is-of, has-block}
 use Rattle.book.specs.declared.need.Need.{Need}
-use Rattle.clearing.specs.Taken.{choices, holds, withheld, takes-from, taken-from}
+use Rattle.book.specs.Taken.{choices, holds, withheld, takes-from, taken-from}
 use Rattle.clearing.specs.Words.{each}
 use Rattle.clearing.specs.Period.{volume}
 use Rattle.clearing.specs.Month.{cover-of, taken-mw, still}

@@ -25,7 +25,7 @@ use Rattle.cost.proofs.Order.{not-same, not-both}
 use Rattle.clearing.specs.Words.{together, each}
 use Rattle.clearing.specs.Criterion.{criterion}
 use Rattle.clearing.specs.Period.{joining, Award, Cover, Named, Nothing-admitted}
-use Rattle.clearing.specs.Taken.{choices}
+use Rattle.book.specs.Taken.{choices}
 use Rattle.clearing.specs.Month.{cover-of, blocks, Block, none, chosen, other, remaining, still, blocks-taken, MonthAward, prices-sum, Named-periods, Block-admitted, block-charges, block-paid, added-up, Admitted-month, Before-month}
 use Rattle.clearing.specs.Tenders.{Way, money-first, left-out-first, rule, Tender, period, month, Comes, Comes-month, Worked, tenders, Small-tenders, February-opens}
 use Rattle.clearing.proofs.Tests.{and-left, and-right, implied, every, every-all, all-member, lower, lower-told, same-list, same-list-is, partners, partners-is, partners-told}

@@ -14,7 +14,7 @@ use Rattle.sheet.specs.declared.product.Product.the-variants.{Rapid, Complement
 use Rattle.book.specs.declared.need.Need.{Need}
 use Rattle.cost.specs.Rule.{Rule}
 use Rattle.clearing.specs.declared.fault.ClearingFault.{ClearingFault}
-use Rattle.clearing.specs.Taken.{choices, taken}
+use Rattle.book.specs.Taken.{choices, taken}
 use Rattle.clearing.specs.Words.{Partners, Some-partner}
 use Rattle.clearing.specs.Criterion.{worth, pay, mw-prices, megawatts}
 use Rattle.clearing.specs.Period.{Award, price, Cover, part, Whole, whole-cost, Admitted, Named}

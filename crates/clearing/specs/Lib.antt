@@ -2,7 +2,6 @@ pub mod Fault
 pub mod Words
 pub mod Criterion
 pub mod Period
-pub mod Taken
 pub mod Month
 pub mod Answer
 pub mod Halves

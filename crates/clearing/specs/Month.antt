@@ -16,7 +16,7 @@ use Rattle.book.specs.Limits.{count}
 use Rattle.book.specs.Needs.{need-of}
 use Rattle.book.specs.declared.need.Need.{Need}
 use Rattle.cost.specs.Rule.{Rule}
-use Rattle.clearing.specs.Taken.{choices, takes, taken}
+use Rattle.book.specs.Taken.{choices, takes, taken}
 use Rattle.clearing.specs.Words.{together, each, Partners}
 use Rattle.clearing.specs.Criterion.{criterion, pay}
 use Rattle.clearing.specs.Period.{joining, Award, price, Cover, volume, Named, Nothing-admitted}
