@@ -17,8 +17,7 @@ pub impl CostRule for LeftOut as LeftOutRule {
 
     ghost within = { λ c k. c ≤ k * 2 ^ 32 };
 
-    fn charge(&self, price_cents: u32, accepted_mw: u32, left_out_mw: u32) -> u64 {
-        let _ = (price_cents, accepted_mw);
+    fn charge(&self, _price_cents: u32, _accepted_mw: u32, left_out_mw: u32) -> u64 {
         left_out_mw as u64
     }
 

@@ -17,8 +17,7 @@ pub impl CostRule for Money as MoneyRule {
 
     ghost within = { λ c k. c ≤ k * 2 ^ 64 };
 
-    fn charge(&self, price_cents: u32, accepted_mw: u32, left_out_mw: u32) -> u128 {
-        let _ = left_out_mw;
+    fn charge(&self, price_cents: u32, accepted_mw: u32, _left_out_mw: u32) -> u128 {
         price_cents as u128 * accepted_mw as u128
     }
 
