@@ -1,6 +1,6 @@
 pub mod Adding
 pub mod Allowed
-pub mod Asking
+pub mod TakenAsked
 pub mod Deposits
 pub mod Ends
 mod Examples

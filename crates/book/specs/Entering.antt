@@ -6,8 +6,8 @@ use Rattle.calendar.specs.Month.{day-counts}
 use Rattle.calendar.specs.declared.month.Calendar.{Calendar}
 use Rattle.book.specs.Needs.{no-need}
 use Rattle.book.specs.Register.{days-of, roll-of}
-use Rattle.book.specs.declared.entering.DepositFault.{DepositFault}
-use Rattle.book.specs.declared.entering.DepositFault.the-variants.{Register as Refused, Memory}
+use Rattle.book.specs.declared.unread.DepositFault.{DepositFault}
+use Rattle.book.specs.declared.unread.DepositFault.the-variants.{Register as Refused, Memory}
 use Rattle.book.specs.declared.register.Register.{Register}
 use Prim.Native.Nat.{ℕ}
 use Rattle.std.specs.declared.result.Result.{Result}

@@ -12,6 +12,7 @@ use crate::fault::RegisterFaultFromSheet;
 use crate::need::Need;
 use crate::register::Register;
 use crate::table::Table;
+use crate::unread::DepositFault;
 use calendar::Calendar;
 use calendar::MOST_PERIODS;
 use sheet::read_sheet;
@@ -41,15 +42,6 @@ impl Table {
         self.enter(periods, offer)?;
         self.enter_all(turns - 1, periods, before + offer.lines() as u16, rest)
     }
-}
-
-/// Why a deposit makes no register.
-#[derive(Clone, Copy)]
-pub enum DepositFault {
-    /// A sheet is refused.
-    Register(RegisterFault),
-    /// There is no memory for a register.
-    Memory,
 }
 
 /// One sheet more than may stand: the last one is refused.

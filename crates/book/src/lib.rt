@@ -2,9 +2,9 @@
 mod asking;
 mod book;
 mod calls;
-mod entering;
 mod deposit;
 mod depositing;
+mod entering;
 mod fault;
 mod judging;
 mod keeping;
@@ -22,7 +22,6 @@ mod unread;
 
 pub use asking::DepositBook;
 pub use book::Book;
-pub use entering::DepositFault;
 pub use deposit::Deposit;
 pub use fault::RegisterFault;
 pub use laws::deposit_breaks;

@@ -4,7 +4,7 @@ use native.Mathlib.Omega.{arith}
 use Rattle.std.specs.Options.{isSome}
 use lib.ListN.{take}
 use Rattle.book.specs.Limits.{count, has-block}
-use Rattle.book.proofs.Asking.{blocks-more, blocks-few}
+use Rattle.book.proofs.TakenAsked.{blocks-more, blocks-few}
 use Rattle.book.proofs.taken.blocks_before.Needs as need
 use Rattle.book.proofs.taken.blocks_before.Needs.{then-is-some, else-is-some}
 

@@ -1,7 +1,7 @@
 use mathlib.Core.Path.{sym, ap, _∙_}
 use Rattle.std.specs.Options.{isSome}
 use Rattle.book.specs.Taken.{holds}
-use Rattle.book.proofs.Asking.{taken-with, taken-without, price-left, block-left}
+use Rattle.book.proofs.TakenAsked.{taken-with, taken-without, price-left, block-left}
 use Rattle.book.proofs.taken.Taken.is_taken.Needs as need
 
 pub returns-then-is-some : need.returns-then-is-some

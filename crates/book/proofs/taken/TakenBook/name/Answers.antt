@@ -1,5 +1,5 @@
 use mathlib.Core.Path.{sym, refl, _∙_}
-use Rattle.book.proofs.Asking.{asked-kept}
+use Rattle.book.proofs.TakenAsked.{asked-kept}
 use Rattle.book.proofs.taken.TakenBook.name.Needs as need
 
 pub returns : need.returns

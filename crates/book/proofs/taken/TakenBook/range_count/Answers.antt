@@ -1,6 +1,6 @@
 use mathlib.Core.Path.{sym, refl, _∙_}
 use lib.ListN.{length}
-use Rattle.book.proofs.Asking.{asked-kept}
+use Rattle.book.proofs.TakenAsked.{asked-kept}
 use Rattle.book.proofs.taken.TakenBook.range_count.Needs as need
 
 pub returns : need.returns

@@ -1,5 +1,5 @@
 use mathlib.Core.Path.{sym, _∙_}
-use Rattle.book.proofs.Asking.{width-kept}
+use Rattle.book.proofs.TakenAsked.{width-kept}
 use Rattle.book.proofs.taken.TakenBook.width.Needs as need
 
 pub returns : need.returns
