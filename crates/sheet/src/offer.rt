@@ -68,7 +68,7 @@ impl Name {
     }
 
     /// Its bytes.
-    pub fn as_slice(&self) -> &[u8]
+    pub(crate) fn as_slice(&self) -> &[u8]
         ensures bytes { λ r. ⌜ now r ≡ name-of (now (self .entry)) ⌝ }
         ensures few { λ r. ⌜ length (now r) ≤ longest-name ⌝ }
     {
@@ -96,7 +96,7 @@ impl PerRange {
     }
 
     /// All of them.
-    pub fn as_slice(&self) -> &[u32]
+    pub(crate) fn as_slice(&self) -> &[u32]
         ensures numbers { λ r. ⌜ now r ≡ numbers-of (now (self .entry)) ⌝ }
         ensures few { λ r. ⌜ length (now r) ≤ most-ranges ⌝ }
     {
