@@ -16,7 +16,7 @@ use Rattle.std.specs.shelf.Lists.{leading}
 use Rattle.text.specs.Form.{Reads, _>>=_, between, after, run, digit, value, needless-zero, number-up-to, whole, cents, decimals, price, ended, field, fields, line-of, keyed, named, name}
 use Rattle.text.specs.Tokens.{Tail}
 use Rattle.sheet.specs.Offer.{Offer}
-use Rattle.sheet.specs.Sheet.{_>>=_ as _>>>=_, _>>_, must, Line, line, itself, agreeing, identifier-line, floor-line, product-line, domax-line, mark-line, Head, head, shape-line, width-line, period-line, price-line, price-lines, block-line, read}
+use Rattle.sheet.specs.Sheet.{_>>=_ as _>>>=_, _>>_, must, Line, line, itself, agreeing, identifier-line, floor-line, product-line, domax-line, mark-line, head, shape-line, width-line, period-line, price-line, price-lines, block-line, read}
 use Rattle.sheet.specs.declared.fault.SheetFault.{SheetFault}
 use Rattle.sheet.specs.declared.fault.SheetFault.the-variants.{Marks, Order, PartMonth}
 

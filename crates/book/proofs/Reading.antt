@@ -1,8 +1,8 @@
 -- The sheets of a text, read one after the other, are those that begin at the places told.
-use mathlib.Core.Path.{_≡_, refl, sym, ap, subst, _∙_}
-use mathlib.Core.Bool.{Bool, true, false, _&&_}
-use mathlib.Core.List.{List, [], _∷_, _++_, map, append-nil}
-use Prim.Native.Nat.{ℕ, zero, suc, _+_, _-_, _*_, _≤_, _<_}
+use mathlib.Core.Path.{_≡_, refl, sym, ap, _∙_}
+use mathlib.Core.Bool.{Bool, true, _&&_}
+use mathlib.Core.List.{List, [], _∷_, _++_, append-nil}
+use Prim.Native.Nat.{ℕ, suc, _+_, _-_, _*_, _≤_, _<_}
 use native.Mathlib.Nat.{min-eq-left}
 use native.Mathlib.Omega.{arith}
 use lib.Dec.{leb}
@@ -13,7 +13,6 @@ use Rattle.std.specs.declared.result.Result.{Result}
 use Rattle.std.specs.declared.result.Result.the-variants.{Ok, Err}
 use Rattle.text.specs.Judging.{_>>=_}
 use Rattle.text.specs.Tokens.{Tail}
-use Rattle.sheet.specs.Limits.{most-periods}
 use Rattle.sheet.specs.Offer.{Offer}
 use Rattle.sheet.specs.Read.{month-of}
 use Rattle.sheet.specs.Sheet.{every, read, lines}
@@ -25,7 +24,7 @@ use Rattle.book.specs.Places.{places-of, was-read, offer-read, begins, offer-a
 use Rattle.book.specs.Roll.{admitted, with}
 use Rattle.book.specs.declared.fault.RegisterFault.{RegisterFault}
 use Rattle.book.specs.declared.starts.Starts.{Starts}
-use Rattle.book.proofs.Ends.{tail-on, tail-shorter, tail-place, read-tail, whole-tail}
+use Rattle.book.proofs.Ends.{tail-on, tail-place, read-tail, whole-tail}
 use Rattle.book.proofs.Later.{Settled, Later, read-later}
 use Rattle.book.proofs.Parts.{with-parts}
 
