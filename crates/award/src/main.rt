@@ -9,7 +9,9 @@ fn main(rt: LibcRuntime) -> io::Result<()> {
     let heap = rt.alloc();
     let mut input = Vec::new(heap);
     // One byte past the limit is enough to tell that the text is too long.
-    rt.stdin().take(MOST_BYTES as u64 + 1).read_to_end(&mut input)?;
+    rt.stdin()
+        .take(MOST_BYTES as u64 + 1)
+        .read_to_end(&mut input)?;
     let answer = report(heap, input.as_slice())?;
     rt.stdout().write_all(answer.as_slice())
 }

@@ -43,8 +43,14 @@ mod tests {
     fn too_long(rt: LibcRuntime) -> Result<(), Fail> {
         let heap = rt.alloc();
         let long = vec![in heap; b'1'; 32_769]?;
-        check_eq(report(heap, long.as_slice())?.as_slice(), b"refused;13;0;\n")?;
+        check_eq(
+            report(heap, long.as_slice())?.as_slice(),
+            b"refused;13;0;\n",
+        )?;
         let longest = vec![in heap; b'1'; 32_768]?;
-        check_eq(report(heap, longest.as_slice())?.as_slice(), b"refused;1;1;\n")
+        check_eq(
+            report(heap, longest.as_slice())?.as_slice(),
+            b"refused;1;1;\n",
+        )
     }
 }
