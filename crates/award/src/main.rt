@@ -1,4 +1,6 @@
 //! Reads the text of a tender on standard input and prints the tables of its periods and its offers, or the refusal.
+#![tactic(auto)]
+
 use std::io;
 use std::io::{Read, Write};
 use tender_text::{MOST_BYTES, report};

@@ -2,6 +2,8 @@
 //!
 //! The texts stand on standard input, with a line `==` of their own between each two; the bytes around that line are
 //! the texts' own, so a text may also lack its last line feed.
+#![tactic(auto)]
+
 use std::io;
 use std::io::{Read, Write};
 use tender_text::report;

@@ -1,4 +1,6 @@
 //! Books: lists of offers under one calendar. The register is the book that a clerk keeps.
+#![tactic(auto)]
+
 mod asking;
 mod book;
 mod calls;

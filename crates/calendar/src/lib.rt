@@ -2,6 +2,8 @@
 //!
 //! Weeks run from Monday to Sunday and are cut at the month's ends. Each week gives a period of its
 //! working days and a period of its other days; an empty one is dropped.
+#![tactic(auto)]
+
 mod date;
 mod fault;
 mod month;

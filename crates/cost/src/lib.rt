@@ -1,5 +1,6 @@
 //! What an award costs. A cost rule says what an offer is charged, how costs join and which of two is cheaper;
 //! `Money`, `LeftOut` and `Pair` are the rules. A grid lays rows and columns over a caller's slice of cells.
+#![tactic(auto)]
 
 pub mod grid;
 pub mod left_out;

@@ -1,4 +1,6 @@
 //! A sheet is one offer: what its text says, and how it is saved.
+#![tactic(auto)]
+
 mod fault;
 mod head;
 mod keywords;

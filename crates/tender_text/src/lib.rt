@@ -1,4 +1,6 @@
 //! The text of a whole tender: its first lines, and the answer that is printed for it.
+#![tactic(auto)]
+
 mod answer;
 mod fault;
 mod needs;

@@ -1,4 +1,6 @@
 //! What a text is made of: whole numbers, prices, names and the bytes that end fields and lines.
+#![tactic(auto)]
+
 mod digits;
 mod ends;
 mod line;

@@ -53,8 +53,8 @@ impl Kind for Prices {
 /// The values of the next `count` fields, and what follows them.
 fn values<'a, K: Kind>(text: &'a [u8], count: usize) -> Option<(Values, &'a [u8])>
     requires { count ≤ 11 }
-    ensures read { values_read result ≡ fields reads count text.now }
-    ensures small { IfSome result (λ p. All (λ v. v < limit) (values_of p.0)) }
+    ensures read { values_read result ≡ fields K.reads count text.now }
+    ensures small { IfSome result (λ p. All (λ v. v < K.limit) (values_of p.0)) }
     ensures long { IfSome result (λ p. length (values_of p.0) ≡ count) }
 {
     let mut all = [0; MOST_FIELDS];
@@ -69,8 +69,8 @@ fn values<'a, K: Kind>(text: &'a [u8], count: usize) -> Option<(Values, &'a [u8]
 
 /// A line of `count` fields, and what follows its line feed; none also where more are asked for than a line may have.
 fn line<'a, K: Kind>(text: &'a [u8], count: usize) -> Option<(Values, &'a [u8])>
-    ensures read { values_read result ≡ short_line reads count text.now }
-    ensures small { IfSome result (λ p. All (λ v. v < limit) (values_of p.0)) }
+    ensures read { values_read result ≡ short_line K.reads count text.now }
+    ensures small { IfSome result (λ p. All (λ v. v < K.limit) (values_of p.0)) }
     ensures long { IfSome result (λ p. length (values_of p.0) ≡ count) }
 {
     if count > MOST_FIELDS {

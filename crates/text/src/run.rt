@@ -15,7 +15,7 @@ pub(crate) trait Bytes {
 
 /// How many bytes of a kind stand at the front.
 fn leading<B: Bytes>(text: &[u8]) -> usize
-    ensures count { result ≡ leading_of kind text.now }
+    ensures count { result ≡ leading_of B.kind text.now }
     ensures within { result ≤ length text.now }
 {
     for (n, byte) in text.iter().enumerate() {
@@ -28,8 +28,8 @@ fn leading<B: Bytes>(text: &[u8]) -> usize
 
 /// The bytes of a kind at the front, if they are at least one and not more than `most`, and what follows them.
 pub(crate) fn run<'a, B: Bytes>(text: &'a [u8], most: usize) -> Option<(&'a [u8], &'a [u8])>
-    ensures read { part_read result ≡ run_of kind 1 most text.now }
-    ensures part { IfSome result (λ p. Part kind 1 most text.now p.0.now p.1.now) }
+    ensures read { part_read result ≡ run_of B.kind 1 most text.now }
+    ensures part { IfSome result (λ p. Part B.kind 1 most text.now p.0.now p.1.now) }
 {
     let n = leading::<B>(text);
     if n < 1 {

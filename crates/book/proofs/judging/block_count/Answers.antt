@@ -5,8 +5,8 @@ use Rattle.book.proofs.judging.block_count.Goals as goal
 
 pub loop-offer-preserved : goal.loop-offer-preserved
 loop-offer-preserved c = (
-  added_more (λ o. cond (has_block o) 1 0) c.args.offers.now c.loop-offer.offer-index c.loop-offer.all _ c.own-block-all.result c.loop-offer-test.true c.own-block-all.ensures.value c.loop-offer.invariant.0,
-  omega (arith, c.own-block-all.ensures.bound, c.loop-offer.invariant.1),
+  added_more (λ o. cond (has_block o) 1 0) c.args.offers.now c.loop-offer.offer-index c.loop-offer.all _ c.own_block-all.result c.loop-offer-test.true c.own_block-all.ensures.value c.loop-offer.invariant.0,
+  omega (arith, c.own_block-all.ensures.bound, c.loop-offer.invariant.1),
 )
 
 pub returns : goal.returns

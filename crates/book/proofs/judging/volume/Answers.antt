@@ -6,8 +6,8 @@ use Rattle.book.proofs.judging.volume.Goals as goal
 
 pub loop-offer-preserved : goal.loop-offer-preserved
 loop-offer-preserved c = (
-  added_more (λ o. cond (is_of c.args.product o.product) (width o) 0) c.args.offers.now c.loop-offer.offer-index c.loop-offer.all _ c.own-width-all.result c.loop-offer-test.true c.own-width-all.ensures.value c.loop-offer.invariant.0,
-  omega (arith, c.own-width-all.ensures.bound, c.loop-offer.invariant.1),
+  added_more (λ o. cond (is_of c.args.product o.product) (width o) 0) c.args.offers.now c.loop-offer.offer-index c.loop-offer.all _ c.own_width-all.result c.loop-offer-test.true c.own_width-all.ensures.value c.loop-offer.invariant.0,
+  omega (arith, c.own_width-all.ensures.bound, c.loop-offer.invariant.1),
 )
 
 pub returns : goal.returns

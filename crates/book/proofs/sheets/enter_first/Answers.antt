@@ -7,12 +7,12 @@ use Rattle.book.proofs.sheets.enter_first.Goals as goal
 
 pub returns : goal.returns
 returns c =
-    let o = facts c.in-ok-offer.offer in
+    let o = facts c.in_ok-offer.offer in
     record {
       entered = (
         o,
-        sym (c.in-ok-offer.ensures ∙ ap (λ T. read T c.args.lines-before c.args.text.now) (month_same c.args.periods c.requires)),
-        with_made c.args.periods (offers_of c.args.table.now) (offers_of c.enter.new.self) o c.in-ok-enter.ensures.value c.in-ok-enter.ensures.after,
+        sym (c.in_ok-offer.ensures ∙ ap (λ T. read T c.args.lines_before c.args.text.now) (month_same c.args.periods c.requires)),
+        with_made c.args.periods (offers_of c.args.table.now) (offers_of c.enter.new.self) o c.in_ok-enter.ensures.value c.in_ok-enter.ensures.after,
         c.lines-lines.ensures.value,
       );
       few = c.lines-lines.ensures.bound;

@@ -6,6 +6,6 @@ pub returns : goal.returns
 returns g c = record {
   award = λ d t offers. one_named d t offers g.R.CostRule.rule;
   month_award = one_named_month g.R.CostRule.rule;
-  period-answer = one_period_answer g.R.CostRule.rule;
-  month-answer = one_month_answer g.R.CostRule.rule;
+  period_answer = one_period_answer g.R.CostRule.rule;
+  month_answer = one_month_answer g.R.CostRule.rule;
 }

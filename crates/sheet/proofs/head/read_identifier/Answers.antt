@@ -12,9 +12,9 @@ pub returns : goal.returns
 returns c =
     let line = c.args.line in
     let text = c.args.text.now in
-    let name = c.in-ok-name.name.bytes.now in
-    let number = c.in-ok-name.number.value in
-    let rest = c.in-ok-name.rest.now in
-    let read = sym c.named-line.ensures.read ∙ ap named_read c.in-ok-name.ensures.ok-part in
-    let says : identifier_line line text ≡ Ok ((name, number), rest) = line_reads named (λ id. leb id.1 highest_number) itself line text rest (name, number) read (le-leb number highest_number c.if-number-gt-HIGHEST-NUMBER.false) in
+    let name = c.in_ok-name.name.bytes.now in
+    let number = c.in_ok-name.number.value in
+    let rest = c.in_ok-name.rest.now in
+    let read = sym c.named_line.ensures.read ∙ ap named_read c.in_ok-name.ensures.ok-part in
+    let says : identifier_line line text ≡ Ok ((name, number), rest) = line_reads named (λ id. leb id.1 highest_number) itself line text rest (name, number) read (le-leb number highest_number c.if-number-gt-HIGHEST_NUMBER.false) in
     record { says = sym says; few = (identifier_keeps line text ((name, number), rest) says).0.2 }

@@ -3,4 +3,4 @@ use Rattle.text.proofs.Keywords.{chain, chain_none}
 use Rattle.sheet.proofs.keywords.after_floor.Goals as goal
 
 pub returns : goal.returns
-returns c = c.after-minimum.ensures ∙ sym (chain (codes "seuil_") (codes "minimum;") c.args.text.now c.in-ok-rest.rest.now c.in-ok-rest.ensures)
+returns c = c.after_minimum.ensures ∙ sym (chain (codes "seuil_") (codes "minimum;") c.args.text.now c.in_ok-rest.rest.now c.in_ok-rest.ensures)

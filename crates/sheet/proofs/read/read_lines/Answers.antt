@@ -5,14 +5,14 @@ use Rattle.text.specs.Lines.{values_of}
 use Rattle.sheet.specs.Sheet.{chain}
 use Rattle.sheet.proofs.read.read_lines.Goals as goal
 
-pub read-rows-requires : goal.read-rows-requires
-read-rows-requires c =
-    let fits = c.in-ok-priced.ensures.fits in
-    let same = c.as-slice.ensures in
-    let periods = values_of c.in-ok-priced.priced in
+pub read_rows-requires : goal.read_rows-requires
+read_rows-requires c =
+    let fits = c.in_ok-priced.ensures.fits in
+    let same = c.as_slice.ensures in
+    let periods = values_of c.in_ok-priced.priced in
     record {
       ranges = search rules;
-      few = omega (arith, ap length same, fits.long, c.in-ok-shape.ensures.fits.2, c.requires.few);
+      few = omega (arith, ap length same, fits.long, c.in_ok-shape.ensures.fits.2, c.requires.few);
       inside = subst (All (λ p. (1 ≤ p) × (p ≤ 11))) (sym same) (All-weaker (λ p. (1 ≤ p) × (p ≤ c.args.periods)) (λ p. (1 ≤ p) × (p ≤ 11)) (λ p h. (h.0, omega (arith, c.requires.few))) periods fits.each);
       rising = ap (chain ltb) same ∙ fits.rising;
       near = search rules;

@@ -14,7 +14,7 @@ loop-row-preserved c =
     let i = c.loop-row.row-index in
     let h = c.loop-row-test.true in
     elim c.match-row.branch [
-      | in-Some w ↦ put_is w.buffer-is w.next-is (put_as (ap (λ l. rows_text (map row_facts (take i rows)) ++ line_text (map price_text l)) w.as-slice.ensures.numbers ∙ rows_more rows i h w.in-Some.prices w.in-Some.is) (omega arith) (put_then c.loop-row.invariant w.put-price-line-next.ensures))
+      | in-Some w ↦ put_is w.buffer-is w.next-is (put_as (ap (λ l. rows_text (map row_facts (take i rows)) ++ line_text (map price_text l)) w.as_slice.ensures.numbers ∙ rows_more rows i h w.in-Some.prices w.in-Some.is) (omega arith) (put_then c.loop-row.invariant w.put_price_line-next.ensures))
       | in-default w ↦ put_is w.buffer-is w.next-is (put_as (ap (λ l. concat (map (λ p. line_text (map price_text p.1)) l)) (sym (same_more rows i h (ap is_some w.in-default.is)))) (omega arith) c.loop-row.invariant)
     ]
 

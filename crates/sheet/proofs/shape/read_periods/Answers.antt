@@ -6,7 +6,7 @@ use Rattle.sheet.proofs.shape.read_periods.Goals as goal
 
 pub returns : goal.returns
 returns c =
-    let periods = values_of c.in-ok-values.values in
-    let rest = c.in-ok-values.rest.now in
+    let periods = values_of c.in_ok-values.values in
+    let rest = c.in_ok-values.rest.now in
     let says : Ok (periods, rest) ≡ period_line c.args.month c.args.count c.args.line c.args.text.now = search rules in
     record { says = says; fits = periods_keep c.args.month c.args.count c.args.line c.args.text.now (periods, rest) (sym says) }

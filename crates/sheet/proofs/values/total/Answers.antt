@@ -3,8 +3,8 @@ use Rattle.std.proofs.ByRecursion.{All-get_or}
 use Rattle.sheet.proofs.Judged.{total_here, total_ends}
 use Rattle.sheet.proofs.values.total.Goals as goal
 
-pub overflow-add-sum : goal.overflow-add-sum
-overflow-add-sum c =
+pub overflow_add-sum : goal.overflow_add-sum
+overflow_add-sum c =
     let small : get_or c.args.values.now c.loop-value.value-index 0 < 10 ^ 10 = All-get_or (λ v. v < 10 ^ 10) c.args.values.now c.loop-value.value-index 0 c.loop-value-test.true c.requires.small in
     search rules
 

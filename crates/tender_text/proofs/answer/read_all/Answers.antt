@@ -6,10 +6,10 @@ use Rattle.tender_text.specs.Opening.{told}
 use Rattle.tender_text.proofs.Tenders.{tender_told}
 use Rattle.tender_text.proofs.answer.read_all.Goals as goal
 
-pub returns-in-Ok-of-deposit : goal.returns-in-Ok-of-deposit
-returns-in-Ok-of-deposit c =
+pub returns-in-Ok-of_deposit : goal.returns-in-Ok-of_deposit
+returns-in-Ok-of_deposit c =
     let first = c.in-Ok.first in
     let days = day_counts c.in-Ok-open.calendar in
-    let made = c.in-Ok-of-deposit.ensures in
-    let all = tender_told c.args.input.now (told first) days c.in-Ok-after-needs.sheets.now (roll_of c.in-Ok-of-deposit.register).offers c.in-Ok.ensures c.in-Ok-open.ensures (c.in-Ok-after-needs.ensures ∙ ap (λ n. after_needs n first.rest.now) c.periods.ensures.value) made.0 in
+    let made = c.in-Ok-of_deposit.ensures in
+    let all = tender_told c.args.input.now (told first) days c.in-Ok-after_needs.sheets.now (roll_of c.in-Ok-of_deposit.register).offers c.in-Ok.ensures c.in-Ok-open.ensures (c.in-Ok-after_needs.ensures ∙ ap (λ n. after_needs n first.rest.now) c.periods.ensures.value) made.0 in
     (all.0, all.1, made.1 ∙ all.2, all.3)

@@ -4,7 +4,7 @@ use Rattle.tender_text.proofs.printing.add_offers.Goals as goal
 
 pub loop-offer-preserved : goal.loop-offer-preserved
 loop-offer-preserved c =
-    offers_more c.args.offers.now c.loop-offer.offer-index _ (vec_items c.loop-offer.table) (vec_items c.add-offer.new.table) c.loop-offer-test.true c.in-ok-add-offer.ensures
+    offers_more c.args.offers.now c.loop-offer.offer-index _ (vec_items c.loop-offer.table) (vec_items c.add_offer.new.table) c.loop-offer-test.true c.in_ok-add_offer.ensures
     ∙ c.loop-offer.invariant
 
 pub returns : goal.returns

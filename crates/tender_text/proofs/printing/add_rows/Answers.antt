@@ -5,9 +5,9 @@ use Rattle.tender_text.proofs.printing.add_rows.Goals as goal
 pub loop-past-preserved : goal.loop-past-preserved
 loop-past-preserved c =
     let before = string_bytes c.loop-past.table in
-    rows_more c.args.counts.now c.loop-past.past before (string_bytes c.in-ok-row.row) (string_bytes c.push-str.new.self) c.loop-past-test.true
-    c.in-ok-row.ensures
-    (c.in-ok-push-str.ensures.bytes ∙ ap (λ s. before ++ s) c.as-str.ensures.value)
+    rows_more c.args.counts.now c.loop-past.past before (string_bytes c.in_ok-row.row) (string_bytes c.push_str.new.self) c.loop-past-test.true
+    c.in_ok-row.ensures
+    (c.in_ok-push_str.ensures.bytes ∙ ap (λ s. before ++ s) c.as_str.ensures.value)
     ∙ c.loop-past.invariant
 
 pub returns : goal.returns

@@ -5,6 +5,6 @@ use Rattle.tender_text.proofs.printing.period_table.Goals as goal
 
 pub returns : goal.returns
 returns c =
-    c.in-ok-add-rows.ensures
-    ∙ ap (λ s. s ++ period_rows 1 c.day_counts.result.now) c.in-ok-table.ensures.ok
+    c.in_ok-add_rows.ensures
+    ∙ ap (λ s. s ++ period_rows 1 c.day_counts.result.now) c.in_ok-table.ensures.ok
     ∙ ap (λ counts. codes "period;days;\n" ++ period_rows 1 counts) c.day_counts.ensures

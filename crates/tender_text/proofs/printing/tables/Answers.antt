@@ -7,7 +7,7 @@ use Rattle.tender_text.proofs.printing.tables.Goals as goal
 
 pub returns : goal.returns
 returns c =
-    tables_joined (period_table (day_counts c.args.calendar.now)) (codes "offer;number;product;MW;\n") (offer_rows (map facts c.args.offers.now)) (vec_items c.in-ok-all.all) (vec_items c.extend-from-slice.new.self) (vec_items c.add-offers.new.table)
-    (c.in-ok-all.ensures.items ∙ c.as-bytes.ensures.value ∙ c.in-ok-periods.ensures)
-    c.in-ok-extend-from-slice.ensures.items
-    c.in-ok-add-offers.ensures
+    tables_joined (period_table (day_counts c.args.calendar.now)) (codes "offer;number;product;MW;\n") (offer_rows (map facts c.args.offers.now)) (vec_items c.in_ok-all.all) (vec_items c.extend_from_slice.new.self) (vec_items c.add_offers.new.table)
+    (c.in_ok-all.ensures.items ∙ c.as_bytes.ensures.value ∙ c.in_ok-periods.ensures)
+    c.in_ok-extend_from_slice.ensures.items
+    c.in_ok-add_offers.ensures

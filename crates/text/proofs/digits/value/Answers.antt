@@ -4,16 +4,16 @@ use Rattle.text.specs.Form.{value}
 use Rattle.text.proofs.Numerals.{low_at, high_at, value_more, grows, below_nine}
 use Rattle.text.proofs.digits.value.Goals as goal
 
-pub overflow-mul-value : goal.overflow-mul-value
-overflow-mul-value c =
+pub overflow_mul-value : goal.overflow_mul-value
+overflow_mul-value c =
     let small : c.loop-byte.value < 1000000000 = below_nine c.loop-byte.value c.loop-byte.byte-index c.loop-byte.invariant.1 (omega arith) in
     search rules
 
-pub overflow-sub-value : goal.overflow-sub-value
-overflow-sub-value c = low_at c.args.digits.now c.requires.digits c.loop-byte.byte-index c.loop-byte-test.true
+pub overflow_sub-value : goal.overflow_sub-value
+overflow_sub-value c = low_at c.args.digits.now c.requires.digits c.loop-byte.byte-index c.loop-byte-test.true
 
-pub overflow-add-value : goal.overflow-add-value
-overflow-add-value c =
+pub overflow_add-value : goal.overflow_add-value
+overflow_add-value c =
     let small : c.loop-byte.value < 1000000000 = below_nine c.loop-byte.value c.loop-byte.byte-index c.loop-byte.invariant.1 (omega arith) in
     let high : get_or c.args.digits.now c.loop-byte.byte-index 0 ≤ 57 = high_at c.args.digits.now c.requires.digits c.loop-byte.byte-index c.loop-byte-test.true in
     search rules

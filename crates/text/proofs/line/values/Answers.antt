@@ -3,15 +3,15 @@ use Rattle.std.proofs.lemmas.List.{length-take-le}
 use Rattle.text.proofs.Fields.{read_more, read_stops, read_all, small_all}
 use Rattle.text.proofs.line.values.Goals as goal
 
-pub returns-in-err-value : goal.returns-in-err-value
-returns-in-err-value g c = rw c.from-residual.ensures (record {
-  read = read_stops g.K.Kind.reads g.K.Kind.limit c.args.count c.loop-i.i c.args.text.now c.loop-i.all c.loop-i.rest.now c.loop-i.invariant c.loop-i-test.true c.in-err-value.ensures.read;
+pub returns-in_err-value : goal.returns-in_err-value
+returns-in_err-value g c = rw c.from_residual.ensures (record {
+  read = read_stops g.K.Kind.reads g.K.Kind.limit c.args.count c.loop-i.i c.args.text.now c.loop-i.all c.loop-i.rest.now c.loop-i.invariant c.loop-i-test.true c.in_err-value.ensures.read;
   small = tt;
   long = tt;
 })
 
 pub loop-i-preserved : goal.loop-i-preserved
-loop-i-preserved g c = read_more g.K.Kind.reads g.K.Kind.limit c.args.count c.loop-i.i c.args.text.now c.loop-i.all c.loop-i.rest.now c.loop-i.invariant c.in-ok-value.value c.in-ok-value.after.now c.requires c.loop-i-test.true c.in-ok-value.ensures.read c.in-ok-value.ensures.small
+loop-i-preserved g c = read_more g.K.Kind.reads g.K.Kind.limit c.args.count c.loop-i.i c.args.text.now c.loop-i.all c.loop-i.rest.now c.loop-i.invariant c.in_ok-value.value c.in_ok-value.after.now c.requires c.loop-i-test.true c.in_ok-value.ensures.read c.in_ok-value.ensures.small
 
 pub returns : goal.returns
 returns g c = record {

@@ -4,10 +4,10 @@ use Rattle.text.proofs.number.number_up_to.Goals as goal
 
 pub returns : goal.returns
 returns c =
-    let run = c.in-ok-digits.ensures in
-    let ds = c.in-ok-digits.digits.now in
+    let run = c.in_ok-digits.ensures in
+    let ds = c.in_ok-digits.digits.now in
     record {
-      read = number_is c.args.most c.value.result c.args.text.now ds c.in-ok-digits.rest.now run.read c.if-needless-zero.ensures c.value.ensures;
+      read = number_is c.args.most c.value.result c.args.text.now ds c.in_ok-digits.rest.now run.read c.if-needless_zero.ensures c.value.ensures;
       token = record {
         stands = run.part.stands;
         valued = c.value.ensures;

@@ -4,9 +4,9 @@ use Rattle.text.proofs.price.cents.Goals as goal
 
 pub returns : goal.returns
 returns c =
-    let run = c.in-ok-digits.ensures in
-    let ds = c.in-ok-digits.digits.now in
-    let rest = c.in-ok-digits.rest.now in
+    let run = c.in_ok-digits.ensures in
+    let ds = c.in_ok-digits.digits.now in
+    let rest = c.in_ok-digits.rest.now in
     let less : c.value.result * c.unit.result < 100 = cents_small c.args.euros c.value.result c.unit.result c.args.text.now ds rest c.value.ensures c.unit.ensures run.part.all run.part.high in
     record {
       read = cents_are c.args.euros c.value.result c.unit.result c.args.text.now ds rest c.value.ensures c.unit.ensures run.read;

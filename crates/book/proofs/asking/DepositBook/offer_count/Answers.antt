@@ -7,4 +7,4 @@ use Rattle.book.proofs.asking.DepositBook.offer_count.Goals as goal
 pub returns : goal.returns
 returns c =
     let self = c.args.self.now in
-    ap length c.as-slice.ensures ∙ sym (length-map (places_of self.starts) (offer_at (length (days_of self)) self.text.now))
+    ap length c.as_slice.ensures ∙ sym (length-map (places_of self.starts) (offer_at (length (days_of self)) self.text.now))

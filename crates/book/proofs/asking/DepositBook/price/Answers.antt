@@ -8,4 +8,4 @@ use Rattle.book.proofs.asking.DepositBook.price.Goals as goal
 pub returns : goal.returns
 returns c =
     let first : 1 ≤ c.args.period = omega arith in
-    c.at.ensures ∙ ap (λ prices. slice_get prices c.args.range) c.prices_at.ensures.value ∙ price_told (sheets_of c.args.self.now) c.args.offer c.args.period c.args.range (facts c.in-ok-sheet.sheet) first c.in-ok-sheet.ensures
+    c.at.ensures ∙ ap (λ prices. slice_get prices c.args.range) c.prices_at.ensures.value ∙ price_told (sheets_of c.args.self.now) c.args.offer c.args.period c.args.range (facts c.in_ok-sheet.sheet) first c.in_ok-sheet.ensures

@@ -6,5 +6,5 @@ use Rattle.book.proofs.deposit.Deposit.name_in.Goals as goal
 
 pub returns : goal.returns
 returns c =
-    let front = c.in-ok-text.ensures in
-    ap Some (named_there (length (days_of c.args.self.now)) c.in-ok-text.text.now front.0 front.1 c.in-ok-name.name.bytes.now _ c.in-ok-name.ensures.read) ∙ ap (λ o. o >>= (λ offer. Some offer.name)) (sym front.2)
+    let front = c.in_ok-text.ensures in
+    ap Some (named_there (length (days_of c.args.self.now)) c.in_ok-text.text.now front.0 front.1 c.in_ok-name.name.bytes.now _ c.in_ok-name.ensures.read) ∙ ap (λ o. o >>= (λ offer. Some offer.name)) (sym front.2)

@@ -5,24 +5,24 @@ use Rattle.book.specs.Reading.{days_of}
 use Rattle.book.proofs.Fronts.{all_after, front_none, front_inside, front_some}
 use Rattle.book.proofs.deposit.Deposit.text_from.Goals as goal
 
-pub returns-in-err-start : goal.returns-in-err-start
-returns-in-err-start c =
+pub returns-in_err-start : goal.returns-in_err-start
+returns-in_err-start c =
     let self = c.args.self.now in
-    rw c.from-residual.ensures (front_none (length (days_of self)) self.text.now (places_of self.starts) c.args.sheet c.in-err-start.ensures)
+    rw c.from_residual.ensures (front_none (length (days_of self)) self.text.now (places_of self.starts) c.args.sheet c.in_err-start.ensures)
 
 pub slice-bounds-result-count : goal.slice-bounds-result-count
 slice-bounds-result-count c =
     let self = c.args.self.now in
-    front_inside (length (days_of self)) self.text.now (places_of self.starts) c.args.sheet c.in-ok-start.start self.sheets c.in-ok-start.ensures
+    front_inside (length (days_of self)) self.text.now (places_of self.starts) c.args.sheet c.in_ok-start.start self.sheets c.in_ok-start.ensures
 
 pub slice-bounds-result-start : goal.slice-bounds-result-start
 slice-bounds-result-start c =
     let self = c.args.self.now in
-    front_inside (length (days_of self)) self.text.now (places_of self.starts) c.args.sheet c.in-ok-start.start self.sheets c.in-ok-start.ensures
+    front_inside (length (days_of self)) self.text.now (places_of self.starts) c.args.sheet c.in_ok-start.start self.sheets c.in_ok-start.ensures
 
 pub returns : goal.returns
 returns c =
     let self = c.args.self.now in
     let T = length (days_of self) in
-    let front = front_some T self.text.now (places_of self.starts) c.args.sheet c.in-ok-start.start self.sheets c.in-ok-start.ensures in
-    (front.0, ap (λ text. read T 0 text) (all_after self.text.now c.in-ok-start.start) ∙ front.1, front.2)
+    let front = front_some T self.text.now (places_of self.starts) c.args.sheet c.in_ok-start.start self.sheets c.in_ok-start.ensures in
+    (front.0, ap (λ text. read T 0 text) (all_after self.text.now c.in_ok-start.start) ∙ front.1, front.2)

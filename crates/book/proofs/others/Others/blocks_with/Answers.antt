@@ -6,5 +6,5 @@ use Rattle.book.proofs.others.Others.blocks_with.Goals as goal
 
 pub returns : goal.returns
 returns c =
-    added_with (λ o. cond (has_block o) 1 0) (facts c.args.offer.now) c.args.self.now.before.now c.args.self.now.after.now c.own-block.result c.block-count.result c.block-count-2.result
-    c.own-block.ensures.value c.block-count.ensures.value c.block-count-2.ensures.value
+    added_with (λ o. cond (has_block o) 1 0) (facts c.args.offer.now) c.args.self.now.before.now c.args.self.now.after.now c.own_block.result c.block_count.result c.block_count-2.result
+    c.own_block.ensures.value c.block_count.ensures.value c.block_count-2.ensures.value

@@ -18,23 +18,23 @@ amend-requires c =
 pub invariant-of-self : goal.invariant-of-self
 invariant-of-self c =
     let self = c.args.self.now in
-    let o = facts c.in-ok-offer.offer in
+    let o = facts c.in_ok-offer.offer in
     let T = periods_of self in
-    let sheet = from_sheet (read_alone T c.args.text.now) o c.in-ok-offer.ensures in
+    let sheet = from_sheet (read_alone T c.args.text.now) o c.in_ok-offer.ensures in
     (self.whole, (keeps_amendment (days_of self) (offers_of self.table) self.kept c.args.text.now o sheet c.amend.result (offers_of c.amend.new.self) (c.amend.ensures.value ∙ ap (λ t. amendable t (offers_of self.table) o) c.month_periods.ensures.value) c.amend.ensures.after, tt))
 
 pub returns : goal.returns
 returns c =
     let self = c.args.self.now in
-    let o = facts c.in-ok-offer.offer in
+    let o = facts c.in_ok-offer.offer in
     let judged = c.amend.ensures.value ∙ ap (λ t. amendable t (offers_of self.table) o) c.month_periods.ensures.value in
     record {
-      step = amend_judged (periods_of self) (roll_of self) c.args.text.now o c.in-ok-offer.ensures c.amend.result (offers_of c.amend.new.self) judged c.amend.ensures.after;
+      step = amend_judged (periods_of self) (roll_of self) c.args.text.now o c.in_ok-offer.ensures c.amend.result (offers_of c.amend.new.self) judged c.amend.ensures.after;
       days = refl;
     }
 
-pub returns-in-err-offer : goal.returns-in-err-offer
-returns-in-err-offer c =
+pub returns-in_err-offer : goal.returns-in_err-offer
+returns-in_err-offer c =
     let self = c.args.self.now in
-    let step = amend_broken (periods_of self) (roll_of self) c.args.text.now c.in-err-offer.field-0.0 c.in-err-offer.ensures in
+    let step = amend_broken (periods_of self) (roll_of self) c.args.text.now c.in_err-offer.field-0.0 c.in_err-offer.ensures in
     record { step = search rules; days = refl }

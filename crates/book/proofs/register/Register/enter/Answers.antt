@@ -12,23 +12,23 @@ use Rattle.book.proofs.register.Register.enter.Goals as goal
 pub invariant-of-self : goal.invariant-of-self
 invariant-of-self c =
     let self = c.args.self.now in
-    let o = facts c.in-ok-offer.offer in
+    let o = facts c.in_ok-offer.offer in
     let T = periods_of self in
-    let sheet = from_sheet (read_alone T c.args.text.now) o c.in-ok-offer.ensures in
+    let sheet = from_sheet (read_alone T c.args.text.now) o c.in_ok-offer.ensures in
     (self.whole, (keeps_entry (days_of self) (offers_of self.table) self.kept c.args.text.now o sheet c.enter.result (offers_of c.enter.new.self) (c.enter.ensures.value ∙ ap (λ t. admitted t (offers_of self.table) o) c.month_periods.ensures.value) c.enter.ensures.after, tt))
 
 pub returns : goal.returns
 returns c =
     let self = c.args.self.now in
-    let o = facts c.in-ok-offer.offer in
+    let o = facts c.in_ok-offer.offer in
     let judged = c.enter.ensures.value ∙ ap (λ t. admitted t (offers_of self.table) o) c.month_periods.ensures.value in
     record {
-      step = enter_judged (periods_of self) (roll_of self) c.args.text.now o c.in-ok-offer.ensures c.enter.result (offers_of c.enter.new.self) judged c.enter.ensures.after;
+      step = enter_judged (periods_of self) (roll_of self) c.args.text.now o c.in_ok-offer.ensures c.enter.result (offers_of c.enter.new.self) judged c.enter.ensures.after;
       days = refl;
     }
 
-pub returns-in-err-offer : goal.returns-in-err-offer
-returns-in-err-offer c =
+pub returns-in_err-offer : goal.returns-in_err-offer
+returns-in_err-offer c =
     let self = c.args.self.now in
-    let step = enter_broken (periods_of self) (roll_of self) c.args.text.now c.in-err-offer.field-0.0 c.in-err-offer.ensures in
+    let step = enter_broken (periods_of self) (roll_of self) c.args.text.now c.in_err-offer.field-0.0 c.in_err-offer.ensures in
     record { step = search rules; days = refl }

@@ -7,10 +7,10 @@ use Rattle.book.proofs.Opened.{take_replicate, same_roll}
 use Rattle.book.proofs.Within.{within_none}
 use Rattle.book.proofs.register.Register.open.Goals as goal
 
-pub invariant-of-result : goal.invariant-of-result
-invariant-of-result c =
+pub invariant_of-result : goal.invariant_of-result
+invariant_of-result c =
     let calendar = c.args.calendar in
-    (refl, (ap (within (day_counts calendar)) c.in-ok-table.ensures ∙ within_none (day_counts calendar) calendar.kept, tt))
+    (refl, (ap (within (day_counts calendar)) c.in_ok-table.ensures ∙ within_none (day_counts calendar) calendar.kept, tt))
 
 pub returns : goal.returns
 returns c =
@@ -19,5 +19,5 @@ returns c =
     let few = (within_limits days [] (within_none days calendar.kept)).month.0 in
     record {
       days = refl;
-      roll = same_roll (offers_of c.in-ok-table.table) [] (take (length days) (replicate 11 no_need)) (replicate (length days) no_need) c.in-ok-table.ensures (take_replicate no_need (length days) 11 few);
+      roll = same_roll (offers_of c.in_ok-table.table) [] (take (length days) (replicate 11 no_need)) (replicate (length days) no_need) c.in_ok-table.ensures (take_replicate no_need (length days) 11 few);
     }

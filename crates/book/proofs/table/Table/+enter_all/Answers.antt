@@ -12,14 +12,14 @@ returns t c =
     let T = c.args.periods in
     let before = c.args.before in
     let offers = offers_of c.args.self.now in
-    let o = facts c.in-ok-offer.offer in
-    let rest = c.in-ok-offer.rest.now in
+    let o = facts c.in_ok-offer.offer in
+    let rest = c.in_ok-offer.rest.now in
     let month : min T 11 ≡ T = omega (arith, c.requires.month) in
-    let apart = eqb-false (length c.args.text.now) 0 (sym c.if-is-empty.ensures) in
+    let apart = eqb-false (length c.args.text.now) 0 (sym c.if-is_empty.ensures) in
     let some : 0 < length c.args.text.now = ⊎_elim (λ h. h) (λ none. absurd (apart (omega arith))) (cases_lt 0 (length c.args.text.now)) in
     let left : 0 < c.args.turns = search rules in
-    let sheet = c.in-ok-offer.ensures ∙ ap (λ n. read n before c.args.text.now) month in
-    c.enter-all.ensures
+    let sheet = c.in_ok-offer.ensures ∙ ap (λ n. read n before c.args.text.now) month in
+    c.enter_all.ensures
     ∙ ap (λ n. entering T (c.args.turns - 1) (before + n) (offers_of c.enter.new.self) rest) c.lines.ensures.value
-    ∙ ap (λ os. entering T (c.args.turns - 1) (before + lines o) os rest) c.in-ok-enter.ensures.after
-    ∙ sym (entering_more T c.args.turns before offers c.args.text.now o rest some left sheet c.in-ok-enter.ensures.value)
+    ∙ ap (λ os. entering T (c.args.turns - 1) (before + lines o) os rest) c.in_ok-enter.ensures.after
+    ∙ sym (entering_more T c.args.turns before offers c.args.text.now o rest some left sheet c.in_ok-enter.ensures.value)

@@ -12,11 +12,11 @@ returns-in-default c =
       after = refl;
     }
 
-pub returns-in-err-judge-without : goal.returns-in-err-judge-without
-returns-in-err-judge-without c =
+pub returns-in_err-judge_without : goal.returns-in_err-judge_without
+returns-in_err-judge_without c =
     let o = facts c.args.offer in
     let allowed = amended_somewhere c.args.periods (offers_of c.args.self.now) o c.in-Some.place (sym c.in-Some.ensures.value) (c.requires.once o.name o.number) in
-    let judged = c.in-err-judge-without.ensures in
+    let judged = c.in_err-judge_without.ensures in
     record { value = search rules; after = search rules }
 
 pub returns : goal.returns
@@ -26,6 +26,6 @@ returns c =
     let found = sym c.in-Some.ensures.value in
     let once = c.requires.once o.name o.number in
     record {
-      value = c.in-ok-judge-without.ensures ∙ sym (amended_somewhere c.args.periods offers o c.in-Some.place found once);
+      value = c.in_ok-judge_without.ensures ∙ sym (amended_somewhere c.args.periods offers o c.in-Some.place found once);
       after = c.replace.ensures ∙ sym (replaced_placed o offers c.in-Some.place found once);
     }

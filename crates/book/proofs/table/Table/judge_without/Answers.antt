@@ -9,4 +9,4 @@ pub returns : goal.returns
 returns c =
     c.judge.ensures
     ∙ ap (λ others. beside c.args.periods others (facts c.args.offer.now))
-    (halves c.as-slice-all.result.now c.args.place (offers_of c.args.self.now) c.as-slice-all.ensures.offers)
+    (halves c.as_slice-all.result.now c.args.place (offers_of c.args.self.now) c.as_slice-all.ensures.offers)

@@ -5,4 +5,4 @@ use Rattle.book.proofs.table.Table.len.Goals as goal
 
 pub returns : goal.returns
 returns c =
-    record { value = sym (length-map c.as-slice.result.now facts) ∙ ap length c.as-slice.ensures.offers; len = c.as-slice.ensures.len }
+    record { value = sym (length-map c.as_slice.result.now facts) ∙ ap length c.as_slice.ensures.offers; len = c.as_slice.ensures.len }

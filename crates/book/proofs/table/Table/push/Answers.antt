@@ -4,4 +4,4 @@ use Rattle.sheet.specs.Facts.{facts}
 use Rattle.book.proofs.table.Table.push.Goals as goal
 
 pub returns : goal.returns
-returns c = ap (map facts) c.push-reserved.ensures.items ∙ map_push facts (vec_items c.args.self.now.offers) c.args.offer
+returns c = ap (map facts) c.push_reserved.ensures.items ∙ map_push facts (vec_items c.args.self.now.offers) c.args.offer

@@ -8,10 +8,10 @@ use Rattle.book.proofs.table.Table.save.Goals as goal
 pub returns-in-Some : goal.returns-in-Some
 returns-in-Some c =
     let before = c.args.buffer.now in
-    let same = saves_standing c.args.name.now c.args.number c.as-slice.result.now (offers_of c.args.self.now) c.in-Some.place _ c.as-slice.ensures.offers (omega (arith, c.as-slice.ensures.len, c.in-Some.ensures.inside)) c.in-Some.ensures.value in
+    let same = saves_standing c.args.name.now c.args.number c.as_slice.result.now (offers_of c.args.self.now) c.in-Some.place _ c.as_slice.ensures.offers (omega (arith, c.as_slice.ensures.len, c.in-Some.ensures.inside)) c.in-Some.ensures.value in
     record {
-      value = c.save-offer.ensures.value ∙ ap (saved_length (length before)) same;
-      buffer = c.save-offer.ensures.buffer ∙ ap (saved_buffer before) same;
+      value = c.save_offer.ensures.value ∙ ap (saved_length (length before)) same;
+      buffer = c.save_offer.ensures.buffer ∙ ap (saved_buffer before) same;
     }
 
 pub returns-in-None : goal.returns-in-None

@@ -5,6 +5,6 @@ use Rattle.book.proofs.table.Table.stands.Goals as goal
 
 pub returns : goal.returns
 returns c =
-    c.is-some.ensures
+    c.is_some.ensures
     ∙ ap is_some c.place.ensures.value
     ∙ sym (stands_placed c.args.name.now c.args.number (offers_of c.args.self.now))

@@ -7,34 +7,34 @@ use Rattle.calendar.specs.Periods.{periods}
 use Rattle.calendar.proofs.Openings.{unannounced, unrisen, dated_opens, date_not_weeks, ok_not_weeks}
 use Rattle.calendar.proofs.month.Calendar.open.Goals as goal
 
-pub returns-then-not-is-announced : goal.returns-then-not-is-announced
-returns-then-not-is-announced c =
-    let date = unannounced c.args.year c.args.month c.args.holidays.now (sym c.if-not-is-announced.ensures) in
-    record { value = sym date; kept = tt; never-weeks = date_not_weeks c.args.year c.args.month c.args.holidays.now date }
+pub returns-then-not-is_announced : goal.returns-then-not-is_announced
+returns-then-not-is_announced c =
+    let date = unannounced c.args.year c.args.month c.args.holidays.now (sym c.if-not-is_announced.ensures) in
+    record { value = sym date; kept = tt; never_weeks = date_not_weeks c.args.year c.args.month c.args.holidays.now date }
 
-pub returns-then-not-is-rising : goal.returns-then-not-is-rising
-returns-then-not-is-rising c =
-    let length-is = c.month-length-days.ensures.value in
-    let date = unrisen c.args.year c.args.month c.args.holidays.now (ap (λ last. rising 0 last c.args.holidays.now) (sym length-is) ∙ sym c.if-not-is-rising.ensures) in
-    record { value = sym date; kept = tt; never-weeks = date_not_weeks c.args.year c.args.month c.args.holidays.now date }
+pub returns-then-not-is_rising : goal.returns-then-not-is_rising
+returns-then-not-is_rising c =
+    let length-is = c.month_length-days.ensures.value in
+    let date = unrisen c.args.year c.args.month c.args.holidays.now (ap (λ last. rising 0 last c.args.holidays.now) (sym length-is) ∙ sym c.if-not-is_rising.ensures) in
+    record { value = sym date; kept = tt; never_weeks = date_not_weeks c.args.year c.args.month c.args.holidays.now date }
 
 pub returns : goal.returns
 returns c =
     let year = c.args.year in
     let month = c.args.month in
     let holidays = c.args.holidays.now in
-    let length-is = c.month-length-days.ensures.value in
+    let length-is = c.month_length-days.ensures.value in
     let first-is = c.first_weekday.ensures.value in
-    let counts = day_counts c.of-month.result in
+    let counts = day_counts c.of_month.result in
     let is : counts ≡ month_periods year month holidays =
-    c.of-month.ensures.value
-    ∙ ap (λ first. periods first c.month-length-days.result holidays) first-is
+    c.of_month.ensures.value
+    ∙ ap (λ first. periods first c.month_length-days.result holidays) first-is
     ∙ ap (λ days. periods (first_weekday year month) days holidays) length-is
     in
-    let kept = subst (λ days. Kept days counts) length-is c.of-month.ensures.kept in
-    let opens = dated_opens year month holidays (sym c.if-not-is-announced.ensures) (ap (λ last. rising 0 last holidays) (sym length-is) ∙ sym c.if-not-is-rising.ensures) (subst (λ l. length l ≤ 11) is kept.few_periods) in
+    let kept = subst (λ days. Kept days counts) length-is c.of_month.ensures.kept in
+    let opens = dated_opens year month holidays (sym c.if-not-is_announced.ensures) (ap (λ last. rising 0 last holidays) (sym length-is) ∙ sym c.if-not-is_rising.ensures) (subst (λ l. length l ≤ 11) is kept.few_periods) in
     record {
       value = ap Ok is ∙ sym opens;
       kept = kept;
-      never-weeks = ok_not_weeks year month holidays (month_periods year month holidays) opens;
+      never_weeks = ok_not_weeks year month holidays (month_periods year month holidays) opens;
     }

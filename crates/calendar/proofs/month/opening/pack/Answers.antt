@@ -25,11 +25,11 @@ loop-part-preserved c =
       | else-part-gt0 w ↦ turned_same l.days l.count parts l.part-index l.invariant.0 l.invariant.1 l.invariant.2 c.loop-part-test.true c.if-part-gt0.days c.if-part-gt0.count w.days-is w.count-is w.if-part-gt0.false
     ]
 
-all-packed : (c : goal.After-loop-part) → take c.loop-part.count c.loop-part.days ≡ filter (ltb 0) c.args.parts.now
-all-packed c = c.loop-part.invariant.2 ∙ ap (filter (ltb 0)) (take_all c.loop-part.part-index c.args.parts.now c.loop-part-test.false)
-
-pub invariant-of-result : goal.invariant-of-result
-invariant-of-result c = (c.loop-part.invariant.0, (c.loop-part.invariant.1, (ap sound (all-packed c) ∙ c.requires, tt)))
+pub invariant_of-result : goal.invariant_of-result
+invariant_of-result c = record {
+  room = c.loop-part.invariant.0;
+  few = c.loop-part.invariant.1;
+  kept = ap sound (c.loop-part.invariant.2 ∙ ap (filter (ltb 0)) (take_all c.loop-part.part-index c.args.parts.now c.loop-part-test.false)) ∙ c.requires }
 
 pub returns : goal.returns
 returns c = c.loop-part.invariant.2 ∙ ap (filter (ltb 0)) (take_all c.loop-part.part-index c.args.parts.now c.loop-part-test.false)

@@ -14,9 +14,9 @@ pub returns-in-Some : goal.returns-in-Some
 returns-in-Some c =
     record {
       value =
-          c.as-slice.ensures.numbers
+          c.as_slice.ensures.numbers
           ∙ priced_here c.rows-rows.result.now (facts c.args.self.now).rows c.rows-rows.ensures.rows c.args.place c.in-Some.prices c.if-place-rows.false c.in-Some.is;
-      few = c.as-slice.ensures.few;
+      few = c.as_slice.ensures.few;
     }
 
 pub returns-in-None : goal.returns-in-None
