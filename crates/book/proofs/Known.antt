@@ -2,7 +2,7 @@
 use Rattle.std.proofs.Common.{◌≡◌, ℕ, ◌+◌, ◌≤◌, Bool, true, false, cond, not, List, [], ◌∷◌, is_some, Some, sym, refl, ap, ◌∙◌, arith}
 use Rattle.std.proofs.lemmas.Slice.Eq.{bytes_eq-Decides}
 use Rattle.std.proofs.lemmas.Bool.{both_ways}
-use Rattle.std.specs.List.{AllByRecursion as All}
+use Rattle.std.specs.List.{AllByRecursion}
 use Rattle.std.specs.Str.{bytes_eq}
 use Rattle.sheet.specs.Offer.{Offer}
 use Rattle.book.specs.Limits.{same, is, count}
@@ -63,11 +63,11 @@ module _ (name : List ℕ) (number : ℕ) where
       go true more h = let z : ◌≡◌ {A = ℕ} 0 1 = cc in absurd (omega arith)
       go false more h = let k = more h in omega arith
 
-  pub none_is : (xs : List Offer) → stands name number xs ≡ false → All (λ x. is name number x ≡ false) xs
+  pub none_is : (xs : List Offer) → stands name number xs ≡ false → AllByRecursion (λ x. is name number x ≡ false) xs
   none_is [] h = tt
   none_is (x ∷ xs) h = go (is name number x) refl (none_is xs) h
     where
-      go : (b : Bool) → is name number x ≡ b → (stands name number xs ≡ false → All (λ x. is name number x ≡ false) xs) → is_some (cond b (Some x) (standing name number xs)) ≡ false → (is name number x ≡ false) × All (λ x. is name number x ≡ false) xs
+      go : (b : Bool) → is name number x ≡ b → (stands name number xs ≡ false → AllByRecursion (λ x. is name number x ≡ false) xs) → is_some (cond b (Some x) (standing name number xs)) ≡ false → (is name number x ≡ false) × AllByRecursion (λ x. is name number x ≡ false) xs
       go true e more h = let z : ◌≡◌ {A = ℕ} 0 1 = cc in absurd (omega arith)
       go false e more h = (e, more h)
 

@@ -4,7 +4,7 @@ use Rattle.std.proofs.lemmas.Bool.{eqb-true, eqb-false}
 use Rattle.std.proofs.lemmas.List.{length-set, length-replicate, get_or-replicate, get_or-set_same, get_or-set_other}
 use Rattle.std.proofs.ByRecursion.{All-push, All-map, all_kept_by, All-weaker}
 use Rattle.std.specs.Option.{option_or}
-use Rattle.std.specs.List.{AllByRecursion as All}
+use Rattle.std.specs.List.{AllByRecursion}
 use Rattle.sheet.specs.Offer.{Offer}
 use Rattle.book.specs.Limits.{same, is, count, InMonth}
 use Rattle.book.specs.Needs.{no_need, need_of}
@@ -91,7 +91,7 @@ once_replaced offers o apart name number =
 pub record Kept (days : List ℕ) (past : List Event) (roll : Roll) : Type 0 where
   pub balance : (name : List ℕ) (number : ℕ) → count (is_withdrawal name number) past + count (is name number) roll.offers ≡ count (is_entry name number) past
   pub apart : (name : List ℕ) (number : ℕ) → count (is name number) roll.offers ≤ 1
-  pub last : All (λ o. last_sheet o.name o.number past ≡ Some o) roll.offers
+  pub last : AllByRecursion (λ o. last_sheet o.name o.number past ≡ Some o) roll.offers
   pub again : roll.offers ≡ replay past []
   pub whole : length roll.needs ≡ length days
   pub needed_last : (t : ℕ) → InMonth days t → need_of roll.needs t ≡ unwrap_or (last_need t past) no_need
@@ -145,7 +145,7 @@ module _ (days : List ℕ) where
       needed_last = same_needs (entry o) (λ t. refl);
     }
       where
-        olds : (xs : List Offer) → All (λ x. last_sheet x.name x.number past ≡ Some x) xs → All (λ x. is o.name o.number x ≡ false) xs → All (λ x. last_sheet x.name x.number (past ++ (entry o ∷ [])) ≡ Some x) xs
+        olds : (xs : List Offer) → AllByRecursion (λ x. last_sheet x.name x.number past ≡ Some x) xs → AllByRecursion (λ x. is o.name o.number x ≡ false) xs → AllByRecursion (λ x. last_sheet x.name x.number (past ++ (entry o ∷ [])) ≡ Some x) xs
         olds [] l n = tt
         olds (x ∷ xs) l n = (same_sheet (entry o) x (of_another o x n.0) l.0, olds xs l.1 n.1)
 

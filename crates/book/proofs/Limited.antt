@@ -3,7 +3,7 @@ use Rattle.std.proofs.Common.{◌≡◌, ℕ, ◌+◌, ◌≤◌, Bool, true, fa
 use Rattle.std.proofs.lemmas.Bool.{ltb-false, leb-true}
 use Rattle.std.proofs.lemmas.List.{length-map, length_push}
 use Rattle.std.proofs.ByRecursion.{All-push, All-map, all_kept_by, All-weaker}
-use Rattle.std.specs.List.{range_with_len, AllByRecursion as All}
+use Rattle.std.specs.List.{range_with_len, AllByRecursion}
 use Rattle.std.specs.Str.{bytes_eq}
 use Rattle.text.specs.Judging.{must}
 use Rattle.sheet.specs.Offer.{Offer, total, width}
@@ -25,11 +25,11 @@ use Rattle.book.proofs.Sums.{length_kept, sum_push, sum_kept, sum_swapped}
 
 -- ---- what `beside` judges
 
-none_first : (test : ℕ → Bool) (ts : List ℕ) → no_pairs (first_at test ts) ≡ Ok tt → All (λ t. test t ≡ false) ts
+none_first : (test : ℕ → Bool) (ts : List ℕ) → no_pairs (first_at test ts) ≡ Ok tt → AllByRecursion (λ t. test t ≡ false) ts
 none_first test [] h = tt
 none_first test (t ∷ ts) h = go (test t) refl (none_first test ts) h
   where
-    go : (b : Bool) → test t ≡ b → (no_pairs (first_at test ts) ≡ Ok tt → All (λ u. test u ≡ false) ts) → no_pairs (cond b (Some t) (first_at test ts)) ≡ Ok tt → (test t ≡ false) × All (λ u. test u ≡ false) ts
+    go : (b : Bool) → test t ≡ b → (no_pairs (first_at test ts) ≡ Ok tt → AllByRecursion (λ u. test u ≡ false) ts) → no_pairs (cond b (Some t) (first_at test ts)) ≡ Ok tt → (test t ≡ false) × AllByRecursion (λ u. test u ≡ false) ts
     go true e more h = let z : ◌≡◌ {A = ℕ} 0 1 = cc in absurd (omega arith)
     go false e more h = (e, more h)
 
@@ -73,7 +73,7 @@ alone_fits T text o h = let a = alone_from T text o h in read_fits T 0 text o a.
 
 module _ (days : List ℕ) where
   joined_by : (base after : List Offer) (o : Offer) → Limits days base → ((g : Offer → ℕ) → total (map g after) ≡ g o + total (map g base)) → Beside (length days) base o →
-      All (Fits (length days)) after → ((name : List ℕ) (number : ℕ) → count (is name number) after ≤ 1) → length after ≤ most_offers → Limits days after
+      AllByRecursion (Fits (length days)) after → ((name : List ℕ) (number : ℕ) → count (is name number) after ≤ 1) → length after ≤ most_offers → Limits days after
   joined_by base after o l sum b fits apart few = record {
     month = l.month;
     sheets = fits;

@@ -1,6 +1,6 @@
 -- The limits that the offers of a book keep, each alone and together. Assumes nothing.
 use Rattle.std.specs.Prelude.{◌≡◌, ℕ, ◌-◌, ◌≤◌, Bool, true, false, cond, ◌&&◌, List, [], ◌∷◌, map, length, is_some, ◌==◌}
-use Rattle.std.specs.List.{AllByRecursion as All}
+use Rattle.std.specs.List.{AllByRecursion}
 use Rattle.std.specs.Str.{bytes_eq}
 use Rattle.sheet.specs.Offer.{Offer, total, width, prices_at}
 use Rattle.sheet.specs.Saved.{Fits}
@@ -60,7 +60,7 @@ InMonth days t = (1 ≤ t) × (t ≤ length days)
 -- the offers of a book, under the day counts of its month; an offer may be offered in no period
 pub record Limits (days : List ℕ) (offers : List Offer) : Type 0 where
   pub month : (length days ≤ 11) × (total days ≤ 31)
-  pub sheets : All (Fits (length days)) offers
+  pub sheets : AllByRecursion (Fits (length days)) offers
   pub apart : (name : List ℕ) (number : ℕ) → count (is name number) offers ≤ 1
   pub places : length offers ≤ most_offers
   pub pairs : (name : List ℕ) (t : ℕ) → InMonth days t → ranges name offers t ≤ most_pairs

@@ -1,7 +1,7 @@
 -- Runs of calls, what their history says, and the law over runs. Assumes nothing.
 use Rattle.std.specs.Prelude.{◌≡◌, ℕ, ◌-◌, ◌<◌, ◌≤◌, Bool, true, false, cond, List, [], ◌∷◌, ◌++◌, length, Some, None, Ok, Err, Option, Result, ◌==◌}
 use Rattle.std.specs.Option.{unwrap_or, option_or}
-use Rattle.std.specs.List.{AllByRecursion as All}
+use Rattle.std.specs.List.{AllByRecursion}
 use Rattle.sheet.specs.Offer.{Offer, total}
 use Rattle.sheet.specs.Sheet.{read_alone}
 use Rattle.sheet.specs.declared.fault.SheetFault.{SheetFault}
@@ -94,7 +94,7 @@ pub record RunLaw (days : List ℕ) (past : List Event) (roll : Roll) : Type 0 w
   -- it stands once
   pub once : (name : List ℕ) (number : ℕ) → count (is name number) roll.offers ≤ 1
   -- it has the sheet last accepted for it
-  pub last_accepted : All (λ o. last_sheet o.name o.number past ≡ Some o) roll.offers
+  pub last_accepted : AllByRecursion (λ o. last_sheet o.name o.number past ≡ Some o) roll.offers
   -- the offers stand in the order of their last entries: the list is the history replayed
   pub replayed : roll.offers ≡ replay past []
   -- each need is the last accepted, or 0 before any

@@ -1,7 +1,7 @@
 -- The book of taken blocks: what a choice of blocks leaves, and the proof that it keeps the limits. Assumes nothing.
 use Rattle.std.specs.Prelude.{◌≡◌, ℕ, zero, suc, ◌+◌, ◌-◌, ◌/◌, ◌%◌, ◌^◌, ◌≤◌, Bool, true, false, cond, ◌&&◌, List, [], ◌∷◌, map, length, None, Option, ◌==◌, slice_index_or, refl}
 use Rattle.std.proofs.Common.{ap, ◌∙◌, arith}
-use Rattle.std.specs.List.{AllByRecursion as All}
+use Rattle.std.specs.List.{AllByRecursion}
 use Rattle.std.specs.Str.{bytes_eq}
 use Rattle.std.proofs.lemmas.List.{length-map}
 use Rattle.sheet.specs.Offer.{Offer, total, width}
@@ -54,7 +54,7 @@ pub length_taken : (place choice : ℕ) (offers : List Offer) → length (taken_
 length_taken place choice [] = refl
 length_taken place choice (o ∷ os) = ap suc (length_taken (place + cond (has_block o) 1 0) choice os)
 
-all_taken : (P : Offer → Type 0) → ((o : Offer) → P o → P (withheld o)) → (place choice : ℕ) (offers : List Offer) → All P offers → All P (taken_from place choice offers)
+all_taken : (P : Offer → Type 0) → ((o : Offer) → P o → P (withheld o)) → (place choice : ℕ) (offers : List Offer) → AllByRecursion P offers → AllByRecursion P (taken_from place choice offers)
 all_taken P less place choice [] h = tt
 all_taken P less place choice (o ∷ os) h = (either (has_block o && holds choice place) h.0, all_taken P less (place + cond (has_block o) 1 0) choice os h.1)
   where
@@ -73,7 +73,7 @@ sum_taken g less place choice (o ∷ os) = either (has_block o && holds choice p
     either true h = let k = less o in omega arith
     either false h = omega arith
 
-no_rows : (ranges : ℕ) (rows : List (Option (List ℕ))) → All (RowFits ranges) (map (λ _. None) rows)
+no_rows : (ranges : ℕ) (rows : List (Option (List ℕ))) → AllByRecursion (RowFits ranges) (map (λ _. None) rows)
 no_rows ranges [] = tt
 no_rows ranges (r ∷ rows) = (tt, no_rows ranges rows)
 

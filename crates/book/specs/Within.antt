@@ -1,7 +1,7 @@
 -- The limits of a book as a test, for an invariant to hold, and the proof that it decides them. Assumes nothing.
 use Rattle.std.specs.Prelude.{◌≡◌, ℕ, ◌+◌, ◌-◌, ◌<◌, ◌≤◌, Bool, true, false, cond, not, ◌&&◌, leb, ◌⊎◌, List, [], ◌∷◌, map, length, Some, None, Decides, Option, ◌==◌, nat_le, slice_index, slice_index_or, refl}
 use Rattle.std.proofs.Common.{sym, subst, ◌∙◌, inl, inr, arith}
-use Rattle.std.specs.List.{range_with_len, AllByRecursion as All}
+use Rattle.std.specs.List.{range_with_len, AllByRecursion}
 use Rattle.std.specs.Str.{bytes_eq}
 use Rattle.std.proofs.lemmas.List.FromFn.{length-range_with_len, get_or-range_with_len}
 use Rattle.std.proofs.ByRecursion.{All-get_or, All-from_get_or, All-weaker, Decides-by_and}
@@ -72,7 +72,7 @@ decides_leb a b = (leb-true a b, le-leb a b)
 decides_between : (low high n : ℕ) → Decides (between low high n) ((low ≤ n) × (n ≤ high))
 decides_between low high n = Decides-and (nat_le low n) (nat_le n high) (decides_leb low n) (decides_leb n high)
 
-decides_every : {X : Type 0} (test : X → Bool) (P : X → Type 0) → ((x : X) → Decides (test x) (P x)) → (xs : List X) → Decides (every test xs) (All P xs)
+decides_every : {X : Type 0} (test : X → Bool) (P : X → Type 0) → ((x : X) → Decides (test x) (P x)) → (xs : List X) → Decides (every test xs) (AllByRecursion P xs)
 decides_every test P each = Decides-by_and test P (every test) each refl (λ x xs. refl)
 
 decides_itself : (b : Bool) → Decides b (b ≡ true)
@@ -140,21 +140,21 @@ fitting_decides T o =
 
 -- ---- all offers
 
-all_of : {X : Type 0} (P : X → Type 0) → ((x : X) → P x) → (xs : List X) → All P xs
+all_of : {X : Type 0} (P : X → Type 0) → ((x : X) → P x) → (xs : List X) → AllByRecursion P xs
 all_of P each [] = tt
 all_of P each (x ∷ xs) = (each x, all_of P each xs)
 
-pub all_counted : (P : ℕ → Type 0) (a n : ℕ) → All P (range_with_len a n) → (t : ℕ) → a ≤ t → t < a + n → P t
+pub all_counted : (P : ℕ → Type 0) (a n : ℕ) → AllByRecursion P (range_with_len a n) → (t : ℕ) → a ≤ t → t < a + n → P t
 all_counted P a n h t low high =
     let at : slice_index_or (range_with_len a n) (t - a) 0 ≡ t = get_or-range_with_len a n (t - a) 0 (omega arith) ∙ omega arith in
     subst P at (All-get_or P (range_with_len a n) (t - a) 0 (rw length-range_with_len (omega arith)) h)
 
-all_counting : (P : ℕ → Type 0) (a n : ℕ) → ((t : ℕ) → a ≤ t → t < a + n → P t) → All P (range_with_len a n)
+all_counting : (P : ℕ → Type 0) (a n : ℕ) → ((t : ℕ) → a ≤ t → t < a + n → P t) → AllByRecursion P (range_with_len a n)
 all_counting P a n each =
     All-from_get_or P (range_with_len a n) 0 (λ i h. let l : i < n = rw length-range_with_len at h in subst P (sym (get_or-range_with_len a n i 0 l)) (each (a + i) (omega arith) (omega arith)))
 
 -- a sum over those that pass a test: none passes, or what follows of each that passes holds
-none_or : {X : Type 0} (p : X → Bool) (w : X → ℕ) (B : Type 0) (xs : List X) → All (λ x. p x ≡ true → B) xs → (total (map (λ x. cond (p x) (w x) 0) xs) ≡ 0) ⊎ B
+none_or : {X : Type 0} (p : X → Bool) (w : X → ℕ) (B : Type 0) (xs : List X) → AllByRecursion (λ x. p x ≡ true → B) xs → (total (map (λ x. cond (p x) (w x) 0) xs) ≡ 0) ⊎ B
 none_or p w B [] h = inl refl
 none_or p w B (x ∷ xs) h = go (p x) h.0 (none_or p w B xs h.1)
   where
@@ -162,7 +162,7 @@ none_or p w B (x ∷ xs) h = go (p x) h.0 (none_or p w B xs h.1)
     go true here more = inr (here refl)
     go false here more = elim more [ inl e ↦ inl (omega arith) | inr b ↦ inr b ]
 
-sum_most : {X : Type 0} (p : X → Bool) (w : X → ℕ) (most : ℕ) (xs : List X) → All (λ x. p x ≡ true → total (map (λ x. cond (p x) (w x) 0) xs) ≤ most) xs → total (map (λ x. cond (p x) (w x) 0) xs) ≤ most
+sum_most : {X : Type 0} (p : X → Bool) (w : X → ℕ) (most : ℕ) (xs : List X) → AllByRecursion (λ x. p x ≡ true → total (map (λ x. cond (p x) (w x) 0) xs) ≤ most) xs → total (map (λ x. cond (p x) (w x) 0) xs) ≤ most
 sum_most p w most xs h = elim (none_or p w (total (map (λ x. cond (p x) (w x) 0) xs) ≤ most) xs h) [ inl e ↦ omega arith | inr b ↦ b ]
 
 -- by name and number
@@ -185,13 +185,13 @@ apart_decides offers =
 pairs_decide : (days : List ℕ) (offers : List Offer) → Decides (every (λ o. every (λ t. leb (ranges o.name offers t) most_pairs) (range_with_len 1 (length days))) offers) ((name : List ℕ) (t : ℕ) → InMonth days t → ranges name offers t ≤ most_pairs)
 pairs_decide days offers =
     let Few : List ℕ → ℕ → Type 0 = λ name t. ranges name offers t ≤ most_pairs in
-    let each = decides_every (λ o. every (λ t. leb (ranges o.name offers t) most_pairs) (range_with_len 1 (length days))) (λ o. All (Few o.name) (range_with_len 1 (length days)))
+    let each = decides_every (λ o. every (λ t. leb (ranges o.name offers t) most_pairs) (range_with_len 1 (length days))) (λ o. AllByRecursion (Few o.name) (range_with_len 1 (length days)))
     (λ o. decides_every (λ t. leb (ranges o.name offers t) most_pairs) (Few o.name) (λ t. decides_leb (ranges o.name offers t) most_pairs) (range_with_len 1 (length days))) offers in (
       λ h name t in_month.
           sum_most (λ o. bytes_eq o.name name) (λ o. length (row o t)) most_pairs offers
-          (All-weaker (λ o. All (Few o.name) (range_with_len 1 (length days))) _
+          (All-weaker (λ o. AllByRecursion (Few o.name) (range_with_len 1 (length days))) _
           (λ o few known. subst (λ n. ranges n offers t ≤ most_pairs) ((bytes_eq-Decides o.name name).0 known) (all_counted (Few o.name) 1 (length days) few t in_month.0 (omega arith))) offers (each.0 h)),
-      λ h. each.1 (all_of (λ o. All (Few o.name) (range_with_len 1 (length days))) (λ o. all_counting (Few o.name) 1 (length days) (λ t low high. h o.name t (low, omega arith))) offers),
+      λ h. each.1 (all_of (λ o. AllByRecursion (Few o.name) (range_with_len 1 (length days))) (λ o. all_counting (Few o.name) 1 (length days) (λ t low high. h o.name t (low, omega arith))) offers),
     )
 
 pub within_decides : (days : List ℕ) (offers : List Offer) → Decides (within days offers) (Limits days offers)

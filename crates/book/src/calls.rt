@@ -1,6 +1,5 @@
 //! The clerk's calls on the table of offers.
-ghost use Rattle.std.specs.Prelude.{◌≡◌, ℕ, ◌+◌, ◌<◌, ◌≤◌, List, [], ◌∷◌, ◌++◌, length, take, drop, Some, vec_len, OnOk};
-ghost use Rattle.text.specs.Tokens.{IfSome};
+ghost use Rattle.std.specs.Prelude.{IfSome, ◌≡◌, ℕ, ◌+◌, ◌<◌, ◌≤◌, List, [], ◌∷◌, ◌++◌, length, take, drop, Some, vec_len, OnOk};
 ghost use Rattle.sheet.specs.Facts.{facts};
 ghost use Rattle.book.specs.Calls.{amendable, if_ok, saved_buffer, saved_length, withdrawable};
 ghost use Rattle.book.specs.Limits.{count, is};

@@ -1,7 +1,6 @@
 //! Offers by their identifiers.
-ghost use Rattle.std.specs.Prelude.{◌≡◌, ◌<◌, map, length};
+ghost use Rattle.std.specs.Prelude.{IfSome, ◌≡◌, ◌<◌, map, length};
 ghost use Rattle.std.specs.Str.{bytes_eq};
-ghost use Rattle.text.specs.Tokens.{IfSome};
 ghost use Rattle.sheet.specs.Facts.{facts};
 ghost use Rattle.book.specs.Limits.{is};
 ghost use Rattle.book.specs.Table.{place_of};

@@ -1,6 +1,6 @@
 -- The days of a month, counted week by week.
-use Rattle.std.proofs.Common.{◌≡◌, ℕ, zero, suc, ◌+◌, ◌-◌, ◌*◌, ◌/◌, ◌%◌, ◌<◌, ◌≤◌, Bool, true, false, cond, not, ◌&&◌, eqb, List, [], ◌∷◌, ◌++◌, map, length, get_or, set, sum_by, count_by, sym, refl, ap, ◌∙◌, subst, add-zero, add-suc, add-one, arith}
-use Rattle.std.specs.List.{range_with_len, concat, AllByRecursion as All}
+use Rattle.std.proofs.Common.{◌≡◌, ℕ, zero, suc, ◌+◌, ◌/◌, ◌<◌, ◌≤◌, Bool, true, false, cond, not, ◌&&◌, eqb, List, [], ◌∷◌, ◌++◌, map, length, get_or, set, count_by, sym, refl, ap, ◌∙◌, subst, add-zero, add-one, arith}
+use Rattle.std.specs.List.{range_with_len, concat, AllByRecursion}
 use Rattle.std.proofs.lemmas.List.Sums.{sum_by_push, count_by-le-length}
 use Rattle.std.proofs.lemmas.List.FromFn.{length-range_with_len}
 use Rattle.std.proofs.ByRecursion.{All-get_or}
@@ -36,7 +36,7 @@ pub laid_same : (f g : ℕ → Bool → ℕ) → ((week : ℕ) (works : Bool) �
 laid_same f g same [] = refl
 laid_same f g same (week ∷ weeks) = rw (same week true, same week false, laid_same f g same weeks) refl
 
-pub laid_all : (P : ℕ → Type 0) (f : ℕ → Bool → ℕ) → ((week : ℕ) (works : Bool) → P (f week works)) → (weeks : List ℕ) → All P (laid f weeks)
+pub laid_all : (P : ℕ → Type 0) (f : ℕ → Bool → ℕ) → ((week : ℕ) (works : Bool) → P (f week works)) → (weeks : List ℕ) → AllByRecursion P (laid f weeks)
 laid_all P f each [] = tt
 laid_all P f each (week ∷ weeks) = (each week true, (each week false, laid_all P f each weeks))
 
@@ -78,7 +78,7 @@ module _ (first : ℕ) (holidays : List ℕ) (n : ℕ) where
   unfolding by_week
   length_by_week = refl
 
-  pub parts_most : All (λ days. days ≤ n) (by_week first n holidays)
+  pub parts_most : AllByRecursion (λ days. days ≤ n) (by_week first n holidays)
   unfolding by_week
   parts_most = laid_all (λ days. days ≤ n) (days_of first n holidays) (λ w b. count_most (belongs first holidays w b) n) (range_with_len 0 6)
 

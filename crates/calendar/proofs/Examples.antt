@@ -1,8 +1,8 @@
 -- The definitions at work.
-use Rattle.std.proofs.Common.{◌≡◌, ℕ, List, [], ◌∷◌, Ok, Err, Result, refl}
+use Rattle.std.proofs.Common.{◌≡◌, [], ◌∷◌, Ok, Err, refl}
 use Rattle.calendar.specs.Opening.{opened}
 use Rattle.calendar.specs.Periods.{by_week}
-use Rattle.calendar.specs.declared.fault.CalendarFault.TheVariants.{Date, Weeks}
+use Rattle.calendar.specs.declared.fault.CalendarFault.TheVariants.{Date}
 
 may_2021 : opened 2021 5 (1 ∷ 8 ∷ 13 ∷ 24 ∷ []) ≡ Ok (2 ∷ 5 ∷ 2 ∷ 4 ∷ 3 ∷ 5 ∷ 2 ∷ 4 ∷ 3 ∷ 1 ∷ [])
 unfolding opened by_week

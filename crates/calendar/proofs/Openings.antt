@@ -1,9 +1,8 @@
 -- When a calendar is opened.
-use Rattle.std.proofs.Common.{◌≡◌, ℕ, ◌≤◌, Bool, true, false, cond, ◌&&◌, leb, List, length, Ok, Err, Result, sym, refl, ap, ◌∙◌, arith}
+use Rattle.std.proofs.Common.{◌≡◌, ℕ, ◌≤◌, true, false, List, length, Ok, Err, refl, arith}
 use Rattle.std.proofs.lemmas.Bool.{le-leb, and_left, and_right, and_from}
 use Rattle.calendar.specs.Date.{month_length}
-use Rattle.calendar.specs.Opening.{announced, rising, dated, month_periods, opened}
-use Rattle.calendar.specs.declared.fault.CalendarFault.{CalendarFault}
+use Rattle.calendar.specs.Opening.{announced, rising, month_periods, opened}
 use Rattle.calendar.specs.declared.fault.CalendarFault.TheVariants.{Date, Weeks}
 
 module _ (year month : ℕ) (holidays : List ℕ) where

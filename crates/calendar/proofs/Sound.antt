@@ -1,9 +1,9 @@
 -- What the periods of every month keep: one to seven days each, all days of the month together, at most eleven.
-use Rattle.std.proofs.Common.{◌≡◌, ℕ, zero, suc, ◌+◌, ◌-◌, ◌*◌, ◌/◌, ◌%◌, ◌<◌, ◌≤◌, Bool, true, false, cond, not, ◌&&◌, eqb, ltb, leb, ◌⊎◌, List, [], ◌∷◌, ◌++◌, map, length, get_or, take, drop, set, sum_by, sum, count_by, filter, sym, refl, ap, ◌∙◌, subst, inl, inr, ⊎_elim, add-one, arith, length-drop, length-take, length-take-le}
-use Rattle.std.specs.List.{range_with_len, AllByRecursion as All}
+use Rattle.std.proofs.Common.{◌≡◌, ℕ, zero, suc, ◌+◌, ◌-◌, ◌*◌, ◌/◌, ◌%◌, ◌<◌, ◌≤◌, Bool, true, false, cond, not, ◌&&◌, eqb, ltb, List, [], ◌∷◌, length, get_or, take, drop, sum, count_by, filter, sym, refl, ap, ◌∙◌, subst, ⊎_elim, add-one, arith, length-drop, length-take-le}
+use Rattle.std.specs.List.{range_with_len, AllByRecursion}
 use Rattle.std.proofs.lemmas.List.Sums.{sum_by-cons, sum_by-set, sum_by-take-drop, sum_by-drop_more, count_by-le-length, length-filter}
 use Rattle.std.proofs.ByRecursion.{all_kept_by, kept_by_passes}
-use Rattle.std.proofs.lemmas.Bool.{ltb-true, ltb-false, cases_lt, cases_Bool, le-ltb, ne_eqb, eqb-true, and_left, and_right, and_from, le-leb, cases_eq}
+use Rattle.std.proofs.lemmas.Bool.{ltb-true, ltb-false, cases_lt, cases_Bool, le-ltb, ne_eqb, and_left, and_right, le-leb, cases_eq}
 use Rattle.calendar.specs.Kept.{Kept, week_long, sound}
 use Rattle.calendar.specs.Periods.{since_monday, listed, working, belongs, days_of, part, by_week, periods}
 use Rattle.calendar.proofs.ByWeek.{count_more, laid_all, month_more, month_none, length_by_week}
@@ -108,7 +108,7 @@ few_periods first n holidays early short =
 
 -- ---- together
 
-week_long_from : (counts : List ℕ) → All (λ count. (1 ≤ count) × (count ≤ 7)) counts → week_long counts ≡ true
+week_long_from : (counts : List ℕ) → AllByRecursion (λ count. (1 ≤ count) × (count ≤ 7)) counts → week_long counts ≡ true
 week_long_from [] each = refl
 week_long_from (count ∷ counts) (here, rest) =
     rw (le-leb 1 count here.0, le-leb count 7 here.1) (week_long_from counts rest)
@@ -121,11 +121,11 @@ module _ (first n : ℕ) (holidays : List ℕ) (early : first < 7) (some : 1 ≤
   some_period [] is = absurd (omega arith)
   some_period (count ∷ counts) is = omega arith
 
-  both : (counts : List ℕ) → All (λ count. ltb 0 count ≡ true) counts → All (λ count. count ≤ 7) counts → All (λ count. (1 ≤ count) × (count ≤ 7)) counts
+  both : (counts : List ℕ) → AllByRecursion (λ count. ltb 0 count ≡ true) counts → AllByRecursion (λ count. count ≤ 7) counts → AllByRecursion (λ count. (1 ≤ count) × (count ≤ 7)) counts
   both [] low high = tt
   both (count ∷ counts) (low, lows) (high, highs) = ((ltb-true 0 count low, high), both counts lows highs)
 
-  seven_most : All (λ count. count ≤ 7) (by_week first n holidays)
+  seven_most : AllByRecursion (λ count. count ≤ 7) (by_week first n holidays)
   unfolding by_week
   seven_most = laid_all (λ count. count ≤ 7) (days_of first n holidays) (λ week works. (week_most first holidays week works n).1) (range_with_len 0 6)
 

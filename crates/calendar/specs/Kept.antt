@@ -1,6 +1,6 @@
 -- What the periods of every tender keep. Assumes nothing.
 use Rattle.std.specs.Prelude.{◌≡◌, ℕ, ◌≤◌, Bool, true, ◌&&◌, List, [], ◌∷◌, length, sum, nat_le}
-use Rattle.std.specs.List.{AllByRecursion as All}
+use Rattle.std.specs.List.{AllByRecursion}
 use Rattle.calendar.specs.Opening.{most_periods}
 
 -- the day counts of a month of so many days
@@ -9,7 +9,7 @@ pub record Kept (days : ℕ) (counts : List ℕ) : Type 0 where
   pub some_period : 1 ≤ length counts
   pub few_periods : length counts ≤ most_periods
   -- each has one to seven days
-  pub each_period : All (λ count. (1 ≤ count) × (count ≤ 7)) counts
+  pub each_period : AllByRecursion (λ count. (1 ≤ count) × (count ≤ 7)) counts
   -- together they are the month
   pub whole_month : sum counts ≡ days
 

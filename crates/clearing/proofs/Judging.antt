@@ -3,7 +3,7 @@ use Rattle.std.proofs.Common.{◌≡◌, ℕ, zero, suc, ◌+◌, Bool, true, fa
 use lib.Signed.{le_z}
 use lib.Dec.{eqb_refl}
 use borrow.Author.Tests.{eqb-false}
-use Rattle.std.specs.List.{ContainsAt as Has, AllByRecursion as All}
+use Rattle.std.specs.List.{ContainsAt as Has, AllByRecursion}
 use Rattle.std.proofs.ByRecursion.{all-has}
 use Rattle.sheet.specs.Offer.{Offer}
 use Rattle.sheet.specs.declared.product.Product.TheVariants.{Rapid, Complementary}
@@ -114,7 +114,7 @@ has_is p (c ∷ cs) t =
     ]
 
 -- the test fails: no element is it
-lacks : (p : ℕ) (cs : List ℤ) → (T (has p cs) → ⊥) → All (λ c. c ≡ pos p → ⊥) cs
+lacks : (p : ℕ) (cs : List ℤ) → (T (has p cs) → ⊥) → AllByRecursion (λ c. c ≡ pos p → ⊥) cs
 lacks p [] n = tt
 lacks p (c ∷ cs) n = (λ e. n (or_left (equals p c) (has p cs) (subst (λ v. T (equals p v)) (sym e) (eqb_refl p))), lacks p cs (λ t. n (or_right (equals p c) (has p cs) t)))
 
@@ -134,7 +134,7 @@ reached_told cs p m = elim m.reached [ inl e ↦ or_left (eqb p 0) (has p cs) (s
 abbrev pub marginal : List ℤ → ℕ → Bool
 marginal cs p = every (λ c. le_z c (pos p)) cs && reached cs p
 
-none_over : (p : ℕ) (cs : List ℤ) → T (every (λ c. le_z c (pos p)) cs) → All (λ c. c ≤ℤ pos p) cs
+none_over : (p : ℕ) (cs : List ℤ) → T (every (λ c. le_z c (pos p)) cs) → AllByRecursion (λ c. c ≤ℤ pos p) cs
 none_over p [] t = tt
 none_over p (c ∷ cs) t = (record { le = and_left (le_z c (pos p)) _ t }, none_over p cs (and_right (le_z c (pos p)) _ t))
 

@@ -1,10 +1,10 @@
--- All awards that can be admitted in a period, listed from the definitions: every candidate price, every lawful power, all combinations. Assumes nothing.
+-- AllByRecursion awards that can be admitted in a period, listed from the definitions: every candidate price, every lawful power, all combinations. Assumes nothing.
 use Rattle.std.proofs.Common.{◌≡◌, ℕ, zero, suc, ◌+◌, ◌-◌, ◌<◌, ◌≤◌, Bool, true, false, cond, ◌&&◌, T, ltb, leb, ◌⊎◌, List, [], ◌∷◌, ◌++◌, map, take, replicate, ℤ, pos, negsuc, filter, refl, subst, inl, inr, arith, le→leb, lt→ltb}
 use mathlib.Core.Logic.{by_cases}
 use mathlib.Core.List.Memᴰ
 use mathlib.Core.List.{Memᴰ}
 use native.Mathlib.Decide.{ℕ_discrete}
-use Rattle.std.specs.List.{AllByRecursion as All}
+use Rattle.std.specs.List.{AllByRecursion}
 use Rattle.std.proofs.ByRecursion.{all-has, All-append, All-take, All-map}
 use Rattle.sheet.specs.Offer.{Offer}
 use Rattle.sheet.specs.declared.product.Product.{Product}
@@ -88,17 +88,17 @@ abbrev Among : List ℕ → ℤ → Type 0
 Among prices (pos p) = Memᴰ p prices
 Among prices (negsuc p) = Unit {0}
 
-all_listed : (prices : List ℕ) (cs : List ℤ) → ((p : ℕ) → Memᴰ p (not_negative cs) → Memᴰ p prices) → All (Among prices) cs
+all_listed : (prices : List ℕ) (cs : List ℤ) → ((p : ℕ) → Memᴰ p (not_negative cs) → Memᴰ p prices) → AllByRecursion (Among prices) cs
 all_listed prices [] more = tt
 all_listed prices (pos p ∷ cs) more = (more p (Memᴰ.head refl), all_listed prices cs (λ q m. more q (Memᴰ.tail m)))
 all_listed prices (negsuc p ∷ cs) more = (tt, all_listed prices cs more)
 
-all_replicate : {X : Type 0} (P : X → Type 0) (n : ℕ) (x : X) → P x → All P (replicate n x)
+all_replicate : {X : Type 0} (P : X → Type 0) (n : ℕ) (x : X) → P x → AllByRecursion P (replicate n x)
 all_replicate P zero x h = tt
 all_replicate P (suc n) x h = (h, all_replicate P n x h)
 
 -- what each range has, each MW has
-all_repeated : {X Y : Type 0} (P : Y → Type 0) (f : X → Y) (ns : List ℕ) (xs : List X) → All P (map f xs) → All (λ x. P (f x)) (repeated ns xs)
+all_repeated : {X Y : Type 0} (P : Y → Type 0) (f : X → Y) (ns : List ℕ) (xs : List X) → AllByRecursion P (map f xs) → AllByRecursion (λ x. P (f x)) (repeated ns xs)
 all_repeated P f [] xs h = tt
 all_repeated P f (n ∷ ns) [] h = tt
 all_repeated P f (n ∷ ns) (x ∷ xs) h = All-append (λ x. P (f x)) (replicate n x) (repeated ns xs) (all_replicate (λ x. P (f x)) n x h.0) (all_repeated P f ns xs h.1)
@@ -115,13 +115,13 @@ module _ (d t : ℕ) where
   candidate_prices product offers = 0 ∷ together (map (offered product) offers)
 
   one_offer : (prices : List ℕ) (o : Offer) (q : ℕ) (b : Bool) → ((p : ℕ) → Memᴰ p (cond b (not_negative (criteria o)) []) → Memᴰ p prices) →
-      All (Among prices) (cond b (take q (megawatts d t o)) [])
+      AllByRecursion (Among prices) (cond b (take q (megawatts d t o)) [])
   one_offer prices o q true more =
       All-take (Among prices) q (megawatts d t o) (All-map (Among prices) (criterion o d) (mw_prices t o) (all_repeated (Among prices) (criterion o d) o.widths (row o t) (all_listed prices (criteria o) more)))
   one_offer prices o q false more = tt
 
   all_accepted : (prices : List ℕ) (product : Product) (offers : List Offer) (powers : List ℕ) →
-      ((p : ℕ) → Memᴰ p (together (map (offered product) offers)) → Memᴰ p prices) → All (Among prices) (accepted d t product offers powers)
+      ((p : ℕ) → Memᴰ p (together (map (offered product) offers)) → Memᴰ p prices) → AllByRecursion (Among prices) (accepted d t product offers powers)
   all_accepted prices product [] powers more = tt
   all_accepted prices product (o ∷ os) [] more = tt
   all_accepted prices product (o ∷ os) (q ∷ qs) more =

@@ -4,7 +4,7 @@ use mathlib.Core.Logic.{by_cases}
 use native.Mathlib.Decide.{dec_le}
 use lib.Signed.{lt_z}
 use borrow.Author.Differences.{ints}
-use Rattle.std.specs.List.{AllByRecursion as All}
+use Rattle.std.specs.List.{AllByRecursion}
 use Rattle.sheet.specs.Offer.{Offer, total}
 use Rattle.sheet.specs.declared.product.Product.{Product}
 use Rattle.sheet.specs.declared.product.Product.TheVariants.{Rapid, Complementary}
@@ -23,24 +23,24 @@ use Rattle.clearing.proofs.Pairs.{partners_weaker}
 reached_pay : (o : Offer) (d x p : ℕ) → criterion o d x ≤ℤ pos p → x ≤ pay o d p
 reached_pay o d x p h = omega (arith, ints)
 
-all_parts : {X : Type 0} (P : X → Type 0) (xs ys : List X) → All P (xs ++ ys) → All P xs × All P ys
+all_parts : {X : Type 0} (P : X → Type 0) (xs ys : List X) → AllByRecursion P (xs ++ ys) → AllByRecursion P xs × AllByRecursion P ys
 all_parts P [] ys h = (tt, h)
 all_parts P (x ∷ xs) ys h = let k = all_parts P xs ys h.1 in ((h.0, k.0), k.1)
 
 module _ (d p : ℕ) (o : Offer) where
-  prices_reached : (q : ℕ) (xs : List ℕ) → All (λ c. c ≤ℤ pos p) (take q (map (criterion o d) xs)) → All (λ x. x ≤ pay o d p) (take q xs)
+  prices_reached : (q : ℕ) (xs : List ℕ) → AllByRecursion (λ c. c ≤ℤ pos p) (take q (map (criterion o d) xs)) → AllByRecursion (λ x. x ≤ pay o d p) (take q xs)
   prices_reached zero xs h = tt
   prices_reached (suc q) [] h = tt
   prices_reached (suc q) (x ∷ xs) h = (reached_pay o d x p h.0, prices_reached q xs h.1)
 
-own_price : (rr rc : ℕ) (product : Product) (cs : List ℤ) → All (λ c. c ≤ℤ pos rr) (cond (is_of Rapid product) cs []) → All (λ c. c ≤ℤ pos rc) (cond (is_of Complementary product) cs []) →
-    All (λ c. c ≤ℤ pos (of_product rr rc product)) cs
+own_price : (rr rc : ℕ) (product : Product) (cs : List ℤ) → AllByRecursion (λ c. c ≤ℤ pos rr) (cond (is_of Rapid product) cs []) → AllByRecursion (λ c. c ≤ℤ pos rc) (cond (is_of Complementary product) cs []) →
+    AllByRecursion (λ c. c ≤ℤ pos (of_product rr rc product)) cs
 own_price rr rc Rapid cs h k = h
 own_price rr rc Complementary cs h k = k
 
 module _ (d t rr rc : ℕ) (P : Offer → ℕ → Type 0) where
-  units_reached : (offers : List Offer) (powers : List ℕ) → Partners P offers powers → All (λ c. c ≤ℤ pos rr) (accepted d t Rapid offers powers) → All (λ c. c ≤ℤ pos rc) (accepted d t Complementary offers powers) →
-      Partners (λ o q. All (λ x. x ≤ pay o d (of_product rr rc o.product)) (take q (mw_prices t o))) offers powers
+  units_reached : (offers : List Offer) (powers : List ℕ) → Partners P offers powers → AllByRecursion (λ c. c ≤ℤ pos rr) (accepted d t Rapid offers powers) → AllByRecursion (λ c. c ≤ℤ pos rc) (accepted d t Complementary offers powers) →
+      Partners (λ o q. AllByRecursion (λ x. x ≤ pay o d (of_product rr rc o.product)) (take q (mw_prices t o))) offers powers
   units_reached [] [] l h k = tt
   units_reached [] (q ∷ qs) l h k = absurd l
   units_reached (o ∷ os) [] l h k = absurd l

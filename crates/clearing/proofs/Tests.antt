@@ -2,7 +2,7 @@
 use Rattle.std.proofs.Common.{◌≡◌, ℕ, Bool, true, false, not, ◌&&◌, ◌||◌, T, eqb, ltb, ◌⊎◌, List, [], ◌∷◌, sym, refl, subst, inl, inr, eqb→eq, lt→ltb}
 use mathlib.Core.List.{Memᴰ}
 use lib.Dec.{eqb_refl}
-use Rattle.std.specs.List.{AllByRecursion as All}
+use Rattle.std.specs.List.{AllByRecursion}
 use Rattle.clearing.specs.Words.{Partners, Lower}
 
 -- ---- tests joined
@@ -44,11 +44,11 @@ abbrev pub every : {X : Type 0} → (X → Bool) → List X → Bool
 every f [] = true
 every f (x ∷ xs) = f x && every f xs
 
-pub every_all : {X : Type 0} (f : X → Bool) (xs : List X) → T (every f xs) → All (λ x. T (f x)) xs
+pub every_all : {X : Type 0} (f : X → Bool) (xs : List X) → T (every f xs) → AllByRecursion (λ x. T (f x)) xs
 every_all f [] t = tt
 every_all f (x ∷ xs) t = (and_left (f x) (every f xs) t, every_all f xs (and_right (f x) (every f xs) t))
 
-pub all_member : {X : Type 0} (P : X → Type 0) {x : X} {xs : List X} → Memᴰ x xs → All P xs → P x
+pub all_member : {X : Type 0} (P : X → Type 0) {x : X} {xs : List X} → Memᴰ x xs → AllByRecursion P xs → P x
 all_member P (Memᴰ.head e) h = subst P (sym e) h.0
 all_member P (Memᴰ.tail m) h = all_member P m h.1
 

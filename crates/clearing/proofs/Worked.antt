@@ -1,7 +1,7 @@
 -- The small tenders are as the table says: one test over all of them. Assumes nothing.
 use Rattle.std.proofs.Common.{◌≡◌, ℕ, ◌+◌, Bool, true, false, cond, not, ◌&&◌, ◌||◌, T, ltb, ◌⊎◌, List, [], ◌∷◌, ◌++◌, map, pos, ◌≤ℤ◌, Some, None, Option, Ordering, Less, Equal, Greater, sym, refl, subst, inl, inr, arith, ltb→lt, T_not}
 use lib.Signed.{le_z}
-use Rattle.std.specs.List.{AllByRecursion as All}
+use Rattle.std.specs.List.{AllByRecursion}
 use Rattle.calendar.specs.Opening.{opened}
 use Rattle.calendar.specs.Periods.{by_week}
 use Rattle.sheet.specs.Offer.{Offer, total}
@@ -215,7 +215,7 @@ pub worked_by : (c : Tender) → T (as_told c) → Worked c
 worked_by (period way n offers award) s = comes_by 5 1 offers (rule way) (compares way) (cover_of n) award s
 worked_by (month way days needs offers award) s = comes_month_by (rule way) (compares way) days offers needs award s
 
-all_worked : (cs : List Tender) → T (every as_told cs) → All Worked cs
+all_worked : (cs : List Tender) → T (every as_told cs) → AllByRecursion Worked cs
 all_worked [] s = tt
 all_worked (c ∷ cs) s = (worked_by c (and_left (as_told c) (every as_told cs) s), all_worked cs (and_right (as_told c) (every as_told cs) s))
 

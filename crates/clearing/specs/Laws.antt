@@ -1,6 +1,6 @@
 -- What is proved of the definitions themselves, for every cost rule. Assumes nothing.
 use Rattle.std.specs.Prelude.{◌≡◌, ℕ, ◌+◌, ◌<◌, ◌≤◌, ◌⊎◌, List, take, pos, Result, count_ones}
-use Rattle.std.specs.List.{ContainsAt as Has, AllByRecursion as All}
+use Rattle.std.specs.List.{ContainsAt as Has, AllByRecursion}
 use Rattle.sheet.specs.Offer.{Offer, total}
 use Rattle.sheet.specs.declared.product.Product.{Product}
 use Rattle.sheet.specs.declared.product.Product.TheVariants.{Rapid, Complementary}
@@ -49,7 +49,7 @@ PriceReached R =
 abbrev pub UnitsPaid : Rule → Type 0
 UnitsPaid R =
     (d t : ℕ) (offers : List Offer) (cover : Cover) (a : Award R) → Admitted d t offers R cover a →
-    Partners (λ o q. All (λ x. x ≤ pay o d (price a o.product)) (take q (mw_prices t o))) offers a.powers
+    Partners (λ o q. AllByRecursion (λ x. x ≤ pay o d (price a o.product)) (take q (mw_prices t o))) offers a.powers
 
 -- and in full: what an observed offer is paid less is never above what it is taken from
 abbrev pub UnitsPaidWhole : Rule → Type 0

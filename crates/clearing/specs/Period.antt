@@ -1,6 +1,6 @@
 -- The award of one period, for any cost rule: what is lawful, what is admitted, what goes first, and the award so named. Assumes nothing.
 use Rattle.std.specs.Prelude.{◌≡◌, ℕ, zero, suc, ◌+◌, ◌*◌, ◌<◌, ◌≤◌, Bool, false, cond, ◌⊎◌, List, [], ◌∷◌, take, ℤ, pos, negsuc, ◌≤ℤ◌, ◌==◌, int_lt}
-use Rattle.std.specs.List.{ContainsAt as Has, AllByRecursion as All}
+use Rattle.std.specs.List.{ContainsAt as Has, AllByRecursion}
 use Rattle.sheet.specs.Offer.{Offer, total}
 use Rattle.sheet.specs.declared.product.Product.{Product}
 use Rattle.sheet.specs.declared.product.Product.TheVariants.{Rapid, Complementary}
@@ -62,7 +62,7 @@ equals p (negsuc c) = false
 
 -- the larger of 0 and the highest criterion among these MW
 pub record Marginal (accepted : List ℤ) (p : ℕ) : Type 0 where
-  pub none_above : All (λ c. c ≤ℤ pos p) accepted
+  pub none_above : AllByRecursion (λ c. c ≤ℤ pos p) accepted
   pub reached : (p ≡ 0) ⊎ Has accepted (pos p)
 
 -- the powers of the offers of a product, and 0 for the others

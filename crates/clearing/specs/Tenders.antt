@@ -1,6 +1,6 @@
 -- The small tenders: what each offers and needs, and the award that it must have, or none. Assumes nothing.
 use Rattle.std.specs.Prelude.{◌≡◌, ℕ, true, false, List, [], ◌∷◌, ◌++◌, map, replicate, Some, None, Ok, Option}
-use Rattle.std.specs.List.{AllByRecursion as All}
+use Rattle.std.specs.List.{AllByRecursion}
 use Rattle.calendar.specs.Opening.{opened}
 use Rattle.sheet.specs.Offer.{Offer}
 use Rattle.sheet.specs.declared.product.Product.{Product}
@@ -200,4 +200,4 @@ abbrev pub tenders : List Tender
 tenders = told ++ (further ++ further_months)
 
 unfoldable pub SmallTenders : Type 0
-SmallTenders = All Worked tenders
+SmallTenders = AllByRecursion Worked tenders

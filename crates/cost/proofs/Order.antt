@@ -1,5 +1,5 @@
 -- What the laws give of the order, for every rule. Assumes nothing.
-use Rattle.std.proofs.Common.{◌≡◌, ◌⊎◌, ap, subst, inl, inr}
+use Rattle.std.proofs.Common.{◌≡◌, ap, subst, inl, inr}
 use Rattle.cost.specs.Rule.{Rule}
 
 module _ (R : Rule) where

@@ -1,14 +1,14 @@
 -- What holds of each element, and texts one after another.
 use Rattle.std.proofs.Common.{◌≡◌, ℕ, Bool, true, List, [], ◌∷◌, ◌++◌, map, refl, ap, ◌∙◌, append_assoc}
 use Rattle.std.proofs.lemmas.Bool.{and_from, and_parts}
-use Rattle.std.specs.List.{concat, AllByRecursion as All}
+use Rattle.std.specs.List.{concat, AllByRecursion}
 use Rattle.sheet.specs.Sheet.{every}
 
-pub every_from : {X : Type 0} (P : X → Type 0) (test : X → Bool) → ((x : X) → P x → test x ≡ true) → (xs : List X) → All P xs → every test xs ≡ true
+pub every_from : {X : Type 0} (P : X → Type 0) (test : X → Bool) → ((x : X) → P x → test x ≡ true) → (xs : List X) → AllByRecursion P xs → every test xs ≡ true
 every_from P test f [] all = refl
 every_from P test f (x ∷ xs) all = and_from (test x) (every test xs) (f x all.0) (every_from P test f xs all.1)
 
-pub all_from_every : {X : Type 0} (test : X → Bool) (P : X → Type 0) → ((x : X) → test x ≡ true → P x) → (xs : List X) → every test xs ≡ true → All P xs
+pub all_from_every : {X : Type 0} (test : X → Bool) (P : X → Type 0) → ((x : X) → test x ≡ true → P x) → (xs : List X) → every test xs ≡ true → AllByRecursion P xs
 all_from_every test P f [] h = tt
 all_from_every test P f (x ∷ xs) h = let both = and_parts (test x) (every test xs) h in (f x both.0, all_from_every test P f xs both.1)
 

@@ -2,7 +2,7 @@
 use Rattle.std.proofs.Common.{◌≡◌, ℕ, ◌+◌, ◌-◌, ◌^◌, ◌<◌, ◌≤◌, Bool, true, false, ◌&&◌, eqb, leb, ◌⊎◌, List, [], ◌∷◌, length, get_or, drop, sym, refl, ap, ◌∙◌, ⊎_elim, arith}
 use Rattle.std.proofs.lemmas.List.{drop_more, drop_all, length-drop}
 use Rattle.std.proofs.lemmas.Bool.{and_parts, le-leb}
-use Rattle.std.specs.List.{AllByRecursion as All}
+use Rattle.std.specs.List.{AllByRecursion}
 use Rattle.text.proofs.FormKeeps.{within_from}
 use Rattle.sheet.specs.Limits.{widest, highest_price}
 use Rattle.sheet.proofs.Each.{all_from_every}
@@ -62,11 +62,11 @@ total_ends xs i h = ap total (drop_all i xs h)
 
 -- ---- values that were judged fit their place
 
-pub widths_small : (floor : ℕ) (ws : List ℕ) → widths_fit floor ws ≡ true → All (λ w. w < 2 ^ 32) ws
+pub widths_small : (floor : ℕ) (ws : List ℕ) → widths_fit floor ws ≡ true → AllByRecursion (λ w. w < 2 ^ 32) ws
 widths_small floor ws h =
     let first = (and_parts (every (between 1 widest) ws && eqb (get_or ws 0 0) floor) (leb (total ws) widest) h).0 in
     let each = (and_parts (every (between 1 widest) ws) (eqb (get_or ws 0 0) floor) first).0 in
     all_from_every (between 1 widest) (λ w. w < 2 ^ 32) (λ w t. let most = within_from 1 widest w t in omega arith) ws each
 
-pub prices_small : (ps : List ℕ) → every (between 0 highest_price) ps ≡ true → All (λ p. p < 2 ^ 32) ps
+pub prices_small : (ps : List ℕ) → every (between 0 highest_price) ps ≡ true → AllByRecursion (λ p. p < 2 ^ 32) ps
 prices_small ps h = all_from_every (between 0 highest_price) (λ p. p < 2 ^ 32) (λ p t. let most = within_from 0 highest_price p t in omega arith) ps h

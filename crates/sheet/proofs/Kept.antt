@@ -1,6 +1,6 @@
 -- What is read keeps the limits of a sheet, and its save is read as the same offer.
 use Rattle.std.proofs.Common.{◌≡◌, ℕ, ◌+◌, ◌<◌, ◌≤◌, true, not, ◌&&◌, List, [], map, length, Some, Ok, codes, Option, sym, refl, ap, ◌∙◌, subst, arith}
-use Rattle.std.specs.List.{range_with_len, AllByRecursion as All}
+use Rattle.std.specs.List.{range_with_len, AllByRecursion}
 use Rattle.std.proofs.lemmas.Bool.{not-true}
 use Rattle.std.proofs.lemmas.List.{append-nil}
 use Rattle.std.proofs.lemmas.List.FromFn.{length-map-range_with_len}
@@ -17,7 +17,7 @@ use Rattle.sheet.proofs.Periods.{Within, priced_count, row_of_each, all_found}
 use Rattle.sheet.proofs.Saves.{saved_reads_back}
 use Rattle.sheet.proofs.SheetKeeps.{ok_from, ok_case, must_case, must_from, ok_same, ShapeFits, WidthsFit, identifier_keeps, floor_keeps, shape_keeps, widths_keep, periods_keep, rows_keep, block_keeps}
 
-in_month : (T : ℕ) (ps : List ℕ) → All (λ p. (1 ≤ p) × (p ≤ T)) ps → Within 1 T ps
+in_month : (T : ℕ) (ps : List ℕ) → AllByRecursion (λ p. (1 ≤ p) × (p ≤ T)) ps → Within 1 T ps
 in_month T = All-weaker (λ p. (1 ≤ p) × (p ≤ T)) (λ p. (1 ≤ p) × (p < 1 + T)) (λ p g. (g.0, omega arith))
 
 record HeadFits (h : Head) : Type 0 where
@@ -41,7 +41,7 @@ head_keeps before text s h =
     subst (λ p. HeadFits p.0) (ok_same {F = SheetFault} (is, p6.1) s h7) fits)))))))
 
 -- lines that keep their limits make an offer that keeps them
-offer_keeps : (T : ℕ) (h : Head) (s : Shape) (widths periods : List ℕ) (rows : List (List ℕ)) (block : Option ℕ) → HeadFits h → ShapeFits T s → WidthsFit s.ranges h.floor widths → InMonth T s.periods periods → (length rows ≡ s.periods) × All (λ row. RowFits s.ranges (Some row)) rows → BlockFits T s.periods block → OnSheet T (offer_of T h widths periods rows block)
+offer_keeps : (T : ℕ) (h : Head) (s : Shape) (widths periods : List ℕ) (rows : List (List ℕ)) (block : Option ℕ) → HeadFits h → ShapeFits T s → WidthsFit s.ranges h.floor widths → InMonth T s.periods periods → (length rows ≡ s.periods) × AllByRecursion (λ row. RowFits s.ranges (Some row)) rows → BlockFits T s.periods block → OnSheet T (offer_of T h widths periods rows block)
 offer_keeps T h s widths periods rows block who shape wide ps qs blocks =
     let found = map (row_of periods rows) (range_with_len 1 T) in
     let long : length rows ≡ length periods = qs.0 ∙ sym ps.long in
@@ -58,7 +58,7 @@ offer_keeps T h s widths periods rows block who shape wide ps qs blocks =
       first_width = wide.first;
       whole_width = wide.all;
       whole_month = length-map-range_with_len (row_of periods rows) 1 T;
-      row_prices = subst (λ k. All (RowFits k) found) (sym wide.count) (all_found (row_of periods rows) (RowFits s.ranges) fit (range_with_len 1 T));
+      row_prices = subst (λ k. AllByRecursion (RowFits k) found) (sym wide.count) (all_found (row_of periods rows) (RowFits s.ranges) fit (range_with_len 1 T));
       block_price = subst (λ k. BlockFits T k block) (sym count) blocks;
     } in
     (fits, subst (λ k. 1 ≤ k) (sym count) shape.some_periods.0)

@@ -1,6 +1,6 @@
 -- Each line of a saved sheet is read back.
 use Rattle.std.proofs.Common.{◌≡◌, ℕ, ◌+◌, ◌^◌, ◌<◌, ◌≤◌, Bool, true, false, cond, ◌&&◌, ◌||◌, eqb, ltb, leb, List, [], ◌∷◌, ◌++◌, map, length, get_or, is_some, Some, None, Ok, codes, decimal, Option, refl, subst, append_assoc, arith}
-use Rattle.std.specs.List.{concat, AllByRecursion as All}
+use Rattle.std.specs.List.{concat, AllByRecursion}
 use Rattle.std.proofs.lemmas.Bool.{eq-eqb, le-leb}
 use Rattle.sheet.specs.declared.product.Product.{Product}
 use Rattle.sheet.specs.declared.product.Product.TheVariants.{Rapid, Complementary}
@@ -25,7 +25,7 @@ line_reads reads fits says l text rest x h f = rw (h, f) refl
 pub agreeing_reads : {X : Type 0} (fault : ℕ → SheetFault) (agree : X → Bool) (reads : Line X) (l : ℕ) (text rest : List ℕ) (x : X) → reads l text ≡ Ok (x, rest) → agree x ≡ true → agreeing fault agree reads l text ≡ Ok (x, rest)
 agreeing_reads fault agree reads l text rest x h f = rw (h, f) refl
 
-pub identifier_reads : (l : ℕ) (who : List ℕ) (n : ℕ) (rest : List ℕ) → All (λ b. letter_or_digit b ≡ true) who → 1 ≤ length who → length who ≤ 16 → n ≤ highest_number → identifier_line l (line_text (who ∷ decimal n ∷ []) ++ rest) ≡ Ok ((who, n), rest)
+pub identifier_reads : (l : ℕ) (who : List ℕ) (n : ℕ) (rest : List ℕ) → AllByRecursion (λ b. letter_or_digit b ≡ true) who → 1 ≤ length who → length who ≤ 16 → n ≤ highest_number → identifier_line l (line_text (who ∷ decimal n ∷ []) ++ rest) ≡ Ok ((who, n), rest)
 identifier_reads l who n rest all lo hi most = line_reads named (λ id. leb id.1 highest_number) itself l (line_text (who ∷ decimal n ∷ []) ++ rest) rest (who, n) (named_reads who n rest all lo hi (omega arith)) (le-leb n highest_number most)
 
 pub floor_reads : (l n : ℕ) (rest : List ℕ) → lowest_floor ≤ n → n ≤ highest_floor → floor_line l (line_text (codes "seuil_minimum" ∷ decimal n ∷ []) ++ rest) ≡ Ok (n, rest)
@@ -70,13 +70,13 @@ shape_reads T l n m block rest small n1 n4 m1 mT month =
     (rw (within 1 most_ranges n n1 n4, within 1 T m m1 mT, le-leb b 1 b1) refl))
     month
 
-pub widths_read : (l floor : ℕ) (ws rest : List ℕ) → All (λ w. (1 ≤ w) × (w ≤ widest)) ws → get_or ws 0 0 ≡ floor → total ws ≤ widest → width_line (length ws) floor l (line_text (map decimal ws) ++ rest) ≡ Ok (ws, rest)
+pub widths_read : (l floor : ℕ) (ws rest : List ℕ) → AllByRecursion (λ w. (1 ≤ w) × (w ≤ widest)) ws → get_or ws 0 0 ≡ floor → total ws ≤ widest → width_line (length ws) floor l (line_text (map decimal ws) ++ rest) ≡ Ok (ws, rest)
 widths_read l floor ws rest all first most =
     line_reads (line_of whole (length ws)) (widths_fit floor) itself l (line_text (map decimal ws) ++ rest) rest ws
     (numbers_back ws rest (All-weaker (λ w. (1 ≤ w) × (w ≤ widest)) (λ n. n < 10 ^ 10) (λ n h. omega arith) ws all))
     (rw (every_from (λ w. (1 ≤ w) × (w ≤ widest)) (between 1 widest) (λ w h. within 1 widest w h.0 h.1) ws all, eq-eqb (get_or ws 0 0) floor first, le-leb (total ws) widest most) refl)
 
-pub periods_read : (T l : ℕ) (ps rest : List ℕ) → T ≤ most_periods → All (λ p. (1 ≤ p) × (p ≤ T)) ps → chain ltb ps ≡ true → period_line T (length ps) l (line_text (map decimal ps) ++ rest) ≡ Ok (ps, rest)
+pub periods_read : (T l : ℕ) (ps rest : List ℕ) → T ≤ most_periods → AllByRecursion (λ p. (1 ≤ p) × (p ≤ T)) ps → chain ltb ps ≡ true → period_line T (length ps) l (line_text (map decimal ps) ++ rest) ≡ Ok (ps, rest)
 periods_read T l ps rest small all rising =
     let text = line_text (map decimal ps) ++ rest in
     agreeing_reads Order (chain ltb) (line (line_of whole (length ps)) (every (between 1 T)) itself) l text rest ps
@@ -98,7 +98,7 @@ prices_read n l row rest fits =
 abbrev pub row_text : ℕ × List ℕ → List ℕ
 row_text p = line_text (map price_text p.1)
 
-pub rows_read : (n l : ℕ) (rows : List (ℕ × List ℕ)) (rest : List ℕ) → All (λ p. RowFits n (Some p.1)) rows → price_lines n (length rows) l (concat (map row_text rows) ++ rest) ≡ Ok (prices_of rows, rest)
+pub rows_read : (n l : ℕ) (rows : List (ℕ × List ℕ)) (rest : List ℕ) → AllByRecursion (λ p. RowFits n (Some p.1)) rows → price_lines n (length rows) l (concat (map row_text rows) ++ rest) ≡ Ok (prices_of rows, rest)
 rows_read n l [] rest all = refl
 rows_read n l (p ∷ rows) rest all =
     rw (append_assoc (row_text p) (concat (map row_text rows)) rest, prices_read n l p.1 (concat (map row_text rows) ++ rest) all.0, rows_read n (l + 1) rows rest all.1) refl

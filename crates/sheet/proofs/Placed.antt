@@ -4,7 +4,7 @@ use native.Mathlib.Nat.{sub-zero}
 use Rattle.std.proofs.ByRecursion.{All-get_or}
 use Rattle.std.proofs.lemmas.List.{append_assoc, append-nil, length_push, length-set, length-take-le, map-set, take_all, take_more}
 use Rattle.std.proofs.lemmas.Bool.{eq-eqb, ne_eqb, cases_eq}
-use Rattle.std.specs.List.{range_with_len, AllByRecursion as All}
+use Rattle.std.specs.List.{range_with_len, AllByRecursion}
 use Rattle.sheet.specs.declared.fault.SheetFault.{SheetFault}
 use Rattle.sheet.specs.declared.offer.PerRange.{PerRange}
 use Rattle.sheet.specs.Facts.{numbers_of, row_facts}
@@ -16,7 +16,7 @@ use Rattle.sheet.proofs.Periods.{chain_above, chain_tail}
 -- ---- one more row found
 
 module _ (p : ℕ) (row : List ℕ) where
-  pub row_of_last : (ps : List ℕ) (rows : List (List ℕ)) → length rows ≡ length ps → All (λ q. q < p) ps → row_of (ps ++ p ∷ []) (rows ++ row ∷ []) p ≡ Some row
+  pub row_of_last : (ps : List ℕ) (rows : List (List ℕ)) → length rows ≡ length ps → AllByRecursion (λ q. q < p) ps → row_of (ps ++ p ∷ []) (rows ++ row ∷ []) p ≡ Some row
   row_of_last [] [] long all = rw (eq-eqb p p refl) refl
   row_of_last [] (r ∷ rows) long all = absurd (omega arith)
   row_of_last (q ∷ ps) [] long all = absurd (omega arith)
@@ -29,7 +29,7 @@ module _ (p : ℕ) (row : List ℕ) where
   row_of_other t ne (q ∷ ps) (r ∷ rows) long = rw (row_of_other t ne ps rows (omega arith)) refl
 
 -- the periods before one of rising periods are below it
-pub rising_below : (ps : List ℕ) (i : ℕ) → chain ltb ps ≡ true → i < length ps → All (λ q. q < get_or ps i 0) (take i ps)
+pub rising_below : (ps : List ℕ) (i : ℕ) → chain ltb ps ≡ true → i < length ps → AllByRecursion (λ q. q < get_or ps i 0) (take i ps)
 rising_below [] i h lt = absurd (omega arith)
 rising_below (x ∷ ps) zero h lt = tt
 rising_below (x ∷ ps) (suc i) h lt = (All-get_or (λ y. x < y) ps i 0 (omega arith) (chain_above x ps h), rising_below ps i (chain_tail x ps h) (omega arith))

@@ -1,7 +1,7 @@
 -- A saved sheet is read as the same offer.
 use Rattle.std.proofs.Common.{◌≡◌, ℕ, ◌+◌, ◌<◌, ◌≤◌, Bool, true, cond, ◌&&◌, ◌||◌, eqb, List, [], ◌∷◌, ◌++◌, map, length, is_some, Some, None, Ok, codes, decimal, Option, refl, ap, ◌∙◌, subst, arith}
 use lib.ListN.{length-map}
-use Rattle.std.specs.List.{range_with_len, concat, AllByRecursion as All}
+use Rattle.std.specs.List.{range_with_len, concat, AllByRecursion}
 use Rattle.std.proofs.lemmas.Bool.{eq-eqb, or_right, not_from_false}
 use Rattle.sheet.specs.Sheet.{read, priced, row_of, dmo, domax, period_line}
 use Rattle.text.specs.Written.{line_text}
@@ -13,7 +13,7 @@ use Rattle.sheet.proofs.Periods.{periods_of, prices_of, priced_in, priced_most, 
 use Rattle.sheet.proofs.LinesBack.{identifier_reads, floor_reads, product_reads, domax_reads, mark_reads, shape_reads, widths_read, periods_read, row_text, rows_read, block_reads}
 
 -- the rows of the priced periods fit as the rows do
-pub priced_fit : (n t : ℕ) (rs : List (Option (List ℕ))) → All (RowFits n) rs → All (λ p. RowFits n (Some p.1)) (priced t rs)
+pub priced_fit : (n t : ℕ) (rs : List (Option (List ℕ))) → AllByRecursion (RowFits n) rs → AllByRecursion (λ p. RowFits n (Some p.1)) (priced t rs)
 priced_fit n t [] all = tt
 priced_fit n t (None ∷ rs) all = priced_fit n (t + 1) rs all.1
 priced_fit n t (Some r ∷ rs) all = (all.0, priced_fit n (t + 1) rs all.1)
@@ -25,7 +25,7 @@ whole_month_block T m (Some p) fits = or_right (eqb 1 0) (eqb m T) (eq-eqb m T f
 pub period_line_reads : (T l : ℕ) (rs : List (Option (List ℕ))) (rest : List ℕ) → T ≤ most_periods → length rs ≡ T → period_line T (length (priced 1 rs)) l (line_text (map (λ p. decimal p.0) (priced 1 rs)) ++ rest) ≡ Ok (periods_of (priced 1 rs), rest)
 period_line_reads T l rs rest small month =
     let ps = periods_of (priced 1 rs) in
-    let inside : All (λ p. (1 ≤ p) × (p ≤ T)) ps = All-weaker (λ p. (1 ≤ p) × (p < 1 + length rs)) (λ p. (1 ≤ p) × (p ≤ T)) (λ p h. (h.0, omega arith)) ps (priced_in 1 rs) in
+    let inside : AllByRecursion (λ p. (1 ≤ p) × (p ≤ T)) ps = All-weaker (λ p. (1 ≤ p) × (p < 1 + length rs)) (λ p. (1 ≤ p) × (p ≤ T)) (λ p h. (h.0, omega arith)) ps (priced_in 1 rs) in
     let long : length ps ≡ length (priced 1 rs) = length-map (priced 1 rs) (λ p. p.0) in
     ap (λ fs. period_line T (length (priced 1 rs)) l (line_text fs ++ rest)) (map_twice (λ p. p.0) decimal (priced 1 rs))
     ∙ subst (λ k. period_line T k l (line_text (map decimal ps) ++ rest) ≡ Ok (ps, rest)) long (periods_read T l ps rest small inside (chain_priced 1 rs))

@@ -2,7 +2,7 @@
 use Rattle.std.proofs.Common.{◌≡◌, ℕ, zero, suc, ◌+◌, ◌≤◌, Bool, true, false, ◌&&◌, ◌||◌, eqb, ltb, leb, List, [], ◌∷◌, length, get_or, Some, None, Ok, Err, codes, Option, Result, sym, refl, ap, subst, ⊎_elim, arith}
 use Rattle.std.specs.Option.{ok_or}
 use Rattle.std.proofs.lemmas.Bool.{leb-true, eqb-true, and_parts, or_cases}
-use Rattle.std.specs.List.{AllByRecursion as All}
+use Rattle.std.specs.List.{AllByRecursion}
 use Rattle.sheet.specs.declared.fault.SheetFault.{SheetFault}
 use Rattle.sheet.specs.Limits.{highest_number, lowest_floor, highest_floor, most_ranges, widest, highest_price, highest_block}
 use Rattle.sheet.specs.Offer.{total}
@@ -80,7 +80,7 @@ shape_keeps T l text s h =
 
 pub record WidthsFit (n floor : ℕ) (ws : List ℕ) : Type 0 where
   pub count : length ws ≡ n
-  pub each : All (λ w. (1 ≤ w) × (w ≤ widest)) ws
+  pub each : AllByRecursion (λ w. (1 ≤ w) × (w ≤ widest)) ws
   pub first : get_or ws 0 0 ≡ floor
   pub all : total ws ≤ widest
 
@@ -109,8 +109,8 @@ prices_keep n l text s h =
     let fits : RowFits n (Some v) = (line_of_from price n text a.0 a.1, all_from_every (between 0 highest_price) (λ p. p ≤ highest_price) (λ p t. (within_from 0 highest_price p t).1) v a.2, subst (λ w. chain leb w ≡ true) (sym a.3) d.1) in
     subst (λ w. RowFits n (Some w)) a.3 fits
 
-pub rows_keep : (n m l : ℕ) (text : List ℕ) (s : List (List ℕ) × List ℕ) → price_lines n m l text ≡ Ok s → (length s.0 ≡ m) × All (λ row. RowFits n (Some row)) s.0
-rows_keep n zero l text s h = let e : s ≡ ([], text) = cc in subst (λ p. (length p.0 ≡ 0) × All (λ row. RowFits n (Some row)) p.0) (sym e) (refl, tt)
+pub rows_keep : (n m l : ℕ) (text : List ℕ) (s : List (List ℕ) × List ℕ) → price_lines n m l text ≡ Ok s → (length s.0 ≡ m) × AllByRecursion (λ row. RowFits n (Some row)) s.0
+rows_keep n zero l text s h = let e : s ≡ ([], text) = cc in subst (λ p. (length p.0 ≡ 0) × AllByRecursion (λ row. RowFits n (Some row)) p.0) (sym e) (refl, tt)
 rows_keep n (suc m) l text s h =
     let a = ok_from (price_line n l text) _ s h in
     let c = ok_from (price_lines n m (l + 1) a.0.1) _ s a.2 in
@@ -118,7 +118,7 @@ rows_keep n (suc m) l text s h =
     let e : s ≡ (a.0.0 ∷ c.0.0, c.0.1) = cc in
     let row = prices_keep n l text a.0 a.1 in
     let rows = rows_keep n m (l + 1) a.0.1 c.0 c.1 in
-    subst (λ p. (length p.0 ≡ suc m) × All (λ r. RowFits n (Some r)) p.0) (sym e) (ap suc rows.0, (row, rows.1))
+    subst (λ p. (length p.0 ≡ suc m) × AllByRecursion (λ r. RowFits n (Some r)) p.0) (sym e) (ap suc rows.0, (row, rows.1))
 
 pub block_keeps : (T m b l : ℕ) (text : List ℕ) (s : Option ℕ × List ℕ) → block_line b l text ≡ Ok s → (eqb b 0 || eqb m T) ≡ true → BlockFits T m s.0
 block_keeps T m zero l text s h t = let e : s.0 ≡ None = cc in subst (BlockFits T m) (sym e) tt

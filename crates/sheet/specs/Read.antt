@@ -1,7 +1,7 @@
 -- What the readers of a sheet answer, by its meaning. Assumes nothing.
 use Rattle.std.specs.Prelude.{◌≡◌, ℕ, ◌+◌, ◌≤◌, min, true, List, map, length, take, Ok, Err, Option, Result, nat_lt}
 use Rattle.std.specs.Borrow.{Bor}
-use Rattle.std.specs.List.{range_with_len, AllByRecursion as All}
+use Rattle.std.specs.List.{range_with_len, AllByRecursion}
 use Rattle.text.specs.Form.{◌>>=◌, ended, field, whole}
 use Rattle.sheet.specs.declared.fault.SheetFault.{SheetFault}
 use Rattle.sheet.specs.declared.head.Head.{Head as KeptHead}
@@ -39,7 +39,7 @@ month_rows n periods l text = price_lines n (length periods) l text >>>= (λ p. 
 -- so many rising periods of a month of T periods
 pub record InMonth (T count : ℕ) (periods : List ℕ) : Type 0 where
   pub long : length periods ≡ count
-  pub each : All (λ p. (1 ≤ p) × (p ≤ T)) periods
+  pub each : AllByRecursion (λ p. (1 ≤ p) × (p ≤ T)) periods
   pub rising : chain nat_lt periods ≡ true
 
 -- the offer of these lines, with the row of each period of the longest month, of which a month of T periods takes the first

@@ -1,6 +1,6 @@
 -- A saved sheet, the limits that a sheet keeps, and the laws of save and read. Assumes nothing.
 use Rattle.std.specs.Prelude.{◌≡◌, ℕ, ◌≤◌, Bool, true, false, cond, ◌&&◌, leb, List, [], ◌∷◌, ◌++◌, map, length, drop, is_some, Some, None, Ok, Err, codes, decimal, Option, Result, nat_le, slice_index_or}
-use Rattle.std.specs.List.{concat, AllByRecursion as All}
+use Rattle.std.specs.List.{concat, AllByRecursion}
 use Rattle.text.specs.Form.{letter_or_digit}
 use Rattle.text.specs.Written.{price_text, line_text}
 use Rattle.sheet.specs.declared.fault.SheetFault.{SheetFault}
@@ -55,7 +55,7 @@ buffer_after text buffer = cond (nat_le (length text) (length buffer)) (text ++ 
 -- a price for each range, none above the highest, never falling
 abbrev pub RowFits : (ranges : ℕ) → Option (List ℕ) → Type 0
 RowFits ranges None = Unit {0}
-RowFits ranges (Some prices) = (length prices ≡ ranges) × All (λ p. p ≤ highest_price) prices × (chain leb prices ≡ true)
+RowFits ranges (Some prices) = (length prices ≡ ranges) × AllByRecursion (λ p. p ≤ highest_price) prices × (chain leb prices ≡ true)
 
 -- a block only where all T periods are priced
 abbrev pub BlockFits : (T m : ℕ) → Option ℕ → Type 0
@@ -65,16 +65,16 @@ BlockFits T m (Some price) = (price ≤ highest_block) × (m ≡ T)
 -- an offer of a month of T periods, which may be offered in none
 pub record Fits (T : ℕ) (o : Offer) : Type 0 where
   pub name_length : (1 ≤ length o.name) × (length o.name ≤ longest_name)
-  pub name_bytes : All (λ b. letter_or_digit b ≡ true) o.name
+  pub name_bytes : AllByRecursion (λ b. letter_or_digit b ≡ true) o.name
   pub number_most : o.number ≤ highest_number
   pub floor_range : (lowest_floor ≤ o.floor) × (o.floor ≤ highest_floor)
   pub one_mark : (o.observed && o.short) ≡ false
   pub range_count : (1 ≤ length o.widths) × (length o.widths ≤ most_ranges)
-  pub range_widths : All (λ w. (1 ≤ w) × (w ≤ widest)) o.widths
+  pub range_widths : AllByRecursion (λ w. (1 ≤ w) × (w ≤ widest)) o.widths
   pub first_width : slice_index_or o.widths 0 0 ≡ o.floor
   pub whole_width : width o ≤ widest
   pub whole_month : length o.rows ≡ T
-  pub row_prices : All (RowFits (length o.widths)) o.rows
+  pub row_prices : AllByRecursion (RowFits (length o.widths)) o.rows
   pub block_price : BlockFits T (length (priced 1 o.rows)) o.block
 
 -- what a sheet can say: offered in a period at least

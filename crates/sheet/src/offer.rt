@@ -1,6 +1,6 @@
 //! One offer, kept in a place of fixed size.
 ghost use Rattle.std.specs.Prelude.{◌≡◌, ◌^◌, ◌<◌, ◌≤◌, map, length};
-ghost use Rattle.std.specs.List.{AllByRecursion as All};
+ghost use Rattle.std.specs.List.{AllByRecursion};
 ghost use Rattle.sheet.specs.Facts.{facts, name_of, numbers_of, row_facts};
 ghost use Rattle.sheet.specs.Limits.{longest_name, most_periods, most_ranges};
 
@@ -80,7 +80,7 @@ impl PerRange {
     /// These numbers, one for each range.
     pub(crate) fn of(values: &[u64]) -> PerRange
         requires few { length values.now ≤ most_ranges }
-        requires small { All (λ v. v < 2 ^ 32) values.now }
+        requires small { AllByRecursion (λ v. v < 2 ^ 32) values.now }
         ensures { numbers_of result ≡ values.now }
     {
         let mut numbers = [0; MOST_RANGES];
@@ -93,7 +93,7 @@ impl PerRange {
         }
     }
 
-    /// All of them.
+    /// AllByRecursion of them.
     pub(crate) fn as_slice(&self) -> &[u32]
         ensures numbers { result.now ≡ numbers_of self.now }
         ensures few { length result.now ≤ most_ranges }

@@ -1,6 +1,6 @@
 //! The lines of prices of a sheet, one for each priced period, and the block's.
 ghost use Rattle.std.specs.Prelude.{◌≡◌, ◌≤◌, true, map, length, nat_lt};
-ghost use Rattle.std.specs.List.{AllByRecursion as All};
+ghost use Rattle.std.specs.List.{AllByRecursion};
 ghost use Rattle.sheet.specs.Facts.{numbers_of, row_facts};
 ghost use Rattle.sheet.specs.Limits.{most_periods, most_ranges};
 ghost use Rattle.sheet.specs.Read.{line_read, month_rows};
@@ -46,7 +46,7 @@ pub(crate) fn read_rows<'a>(
 ) -> Result<([Option<PerRange>; MOST_PERIODS], &'a [u8]), SheetFault>
     requires ranges { ranges ≤ most_ranges }
     requires few { length periods.now ≤ most_periods }
-    requires inside { All (λ p. (1 ≤ p) × (p ≤ most_periods)) periods.now }
+    requires inside { AllByRecursion (λ p. (1 ≤ p) × (p ≤ most_periods)) periods.now }
     requires rising { chain nat_lt periods.now ≡ true }
     requires near { line ≤ 70000 }
     ensures { line_read (map row_facts) result ≡ month_rows ranges periods.now line text.now }

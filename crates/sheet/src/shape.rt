@@ -1,6 +1,6 @@
 //! Lines 7 to 9 of a sheet: how many ranges, periods and blocks there are, the ranges' widths, and the periods.
 ghost use Rattle.std.specs.Prelude.{◌≡◌, ◌^◌, ◌<◌, ◌≤◌, true, length, IfOk};
-ghost use Rattle.std.specs.List.{AllByRecursion as All};
+ghost use Rattle.std.specs.List.{AllByRecursion};
 ghost use Rattle.sheet.specs.Facts.{numbers_of};
 ghost use Rattle.sheet.specs.Limits.{most_periods, most_ranges};
 ghost use Rattle.sheet.specs.Read.{InMonth, line_read, shape_says};
@@ -70,7 +70,7 @@ pub(crate) fn read_shape<'a>(
 fn widths_fit(widths: &[u64], floor: u32) -> bool
     requires some { 1 ≤ length widths.now }
     requires few { length widths.now ≤ 11 }
-    requires small { All (λ v. v < 10 ^ 10) widths.now }
+    requires small { AllByRecursion (λ v. v < 10 ^ 10) widths.now }
     ensures { result ≡ widths_fit floor widths.now }
 {
     if !all_between(widths, 1, WIDEST) {

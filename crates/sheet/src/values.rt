@@ -1,6 +1,6 @@
 //! What the values of a line must be.
 ghost use Rattle.std.specs.Prelude.{◌≡◌, ◌^◌, ◌<◌, ◌≤◌, length, nat_le, nat_lt};
-ghost use Rattle.std.specs.List.{AllByRecursion as All};
+ghost use Rattle.std.specs.List.{AllByRecursion};
 ghost use Rattle.sheet.specs.Offer.{total as total_of};
 ghost use Rattle.sheet.specs.Sheet.{chain, every};
 ghost use Rattle.text.specs.Form.{between};
@@ -44,7 +44,7 @@ pub(crate) fn never_falling(values: &[u64]) -> bool
 /// Their sum.
 pub(crate) fn total(values: &[u64]) -> u64
     requires few { length values.now ≤ 11 }
-    requires small { All (λ v. v < 10 ^ 10) values.now }
+    requires small { AllByRecursion (λ v. v < 10 ^ 10) values.now }
     ensures { result ≡ total_of values.now }
 {
     let mut sum = 0;

@@ -3,7 +3,7 @@ use Rattle.std.proofs.Common.{◌≡◌, ℕ, suc, ◌+◌, ◌-◌, ◌<◌, �
 use native.Mathlib.Nat.{sub-zero}
 use Rattle.std.proofs.ByRecursion.{All-push}
 use Rattle.std.proofs.lemmas.List.{append_assoc, append-nil, length-set, take_more_set}
-use Rattle.std.specs.List.{AllByRecursion as All}
+use Rattle.std.specs.List.{AllByRecursion}
 use Rattle.text.specs.Form.{◌>>=◌, Reads, field, fields}
 
 -- values that were read before the others
@@ -31,7 +31,7 @@ module _ (reads : Reads ℕ) where
   pub record SoFar (below count i : ℕ) (text all rest : List ℕ) : Type 0 where
     pub room : length all ≡ 11
     pub read : fields reads count text ≡ then_read (take i all) (fields reads (count - i) rest)
-    pub small : All (λ v. v < below) (take i all)
+    pub small : AllByRecursion (λ v. v < below) (take i all)
 
   pub read_none : (below count : ℕ) (text all : List ℕ) → length all ≡ 11 → SoFar below count 0 text all text
   read_none below count text all room = record { room = room; read = rw (sub-zero count) (then_none (fields reads count text)); small = tt }
@@ -60,5 +60,5 @@ module _ (reads : Reads ℕ) where
         let done : count - i ≡ 0 = omega arith in
         sym (so_far.read ∙ ap (λ k. then_read (take i all) (fields reads k rest)) done ∙ ap (λ l. Some (l, rest)) (append-nil (take i all) ∙ ap (λ k. take k all) same))
 
-    pub small_all : i ≤ count → count ≤ i → All (λ v. v < below) (take count all)
+    pub small_all : i ≤ count → count ≤ i → AllByRecursion (λ v. v < below) (take count all)
     small_all le ge = let same : i ≡ count = omega arith in rw (← same) so_far.small

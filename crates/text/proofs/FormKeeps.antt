@@ -3,7 +3,7 @@ use Rattle.std.proofs.Common.{◌≡◌, ℕ, zero, suc, ◌+◌, ◌≤◌, Boo
 use Rattle.std.proofs.lemmas.Bool.{leb-true, and_parts}
 use Rattle.std.proofs.lemmas.List.{length-take-le}
 use Rattle.std.proofs.lemmas.List.Sums.{prefix_len-le-length}
-use Rattle.std.specs.List.{prefix_len, AllByRecursion as All}
+use Rattle.std.specs.List.{prefix_len, AllByRecursion}
 use Rattle.text.specs.Form.{Reads, ◌>>=◌, between, run, letter_or_digit, name, whole, after, ended, field, fields, line_of, named}
 use Rattle.text.specs.Laws.{Named}
 
@@ -19,22 +19,22 @@ pub passed : {X : Type 0} (t : Bool) (x y : X) → cond t (Some x) None ≡ Some
 passed true x y h = (refl, cc)
 passed false x y h = absurd (let z : ◌≡◌ {A = ℕ} 0 1 = cc in omega arith)
 
-pub leading_take : (kind : ℕ → Bool) (text : List ℕ) → All (λ b. kind b ≡ true) (take (prefix_len kind text) text)
+pub leading_take : (kind : ℕ → Bool) (text : List ℕ) → AllByRecursion (λ b. kind b ≡ true) (take (prefix_len kind text) text)
 leading_take kind [] = tt
 leading_take kind (x ∷ text) = each (leading_take kind text) (kind x) refl
   where
-    each : All (λ b. kind b ≡ true) (take (prefix_len kind text) text) → (t : Bool) → kind x ≡ t → All (λ b. kind b ≡ true) (take (cond t (1 + prefix_len kind text) 0) (x ∷ text))
+    each : AllByRecursion (λ b. kind b ≡ true) (take (prefix_len kind text) text) → (t : Bool) → kind x ≡ t → AllByRecursion (λ b. kind b ≡ true) (take (cond t (1 + prefix_len kind text) 0) (x ∷ text))
     each more true e = rw one-add (e, more)
     each more false e = tt
 
-pub run_from : (kind : ℕ → Bool) (least most : ℕ) (text : List ℕ) (s : List ℕ × List ℕ) → run kind least most text ≡ Some s → All (λ b. kind b ≡ true) s.0 × (least ≤ length s.0) × (length s.0 ≤ most)
+pub run_from : (kind : ℕ → Bool) (least most : ℕ) (text : List ℕ) (s : List ℕ × List ℕ) → run kind least most text ≡ Some s → AllByRecursion (λ b. kind b ≡ true) s.0 × (least ≤ length s.0) × (length s.0 ≤ most)
 run_from kind least most text s h =
     let n = prefix_len kind text in
     let both = passed (between least most n) (take n text, drop n text) s h in
     let size = within_from least most n both.0 in
     let front : take n text ≡ s.0 = ap (λ p. p.0) both.1 in
     let long : length s.0 ≡ n = ap length (sym front) ∙ length-take-le n text (prefix_len-le-length kind text) in
-    (subst (All (λ b. kind b ≡ true)) front (leading_take kind text), omega (arith, size, long), omega (arith, size, long))
+    (subst (AllByRecursion (λ b. kind b ≡ true)) front (leading_take kind text), omega (arith, size, long), omega (arith, size, long))
 
 pub ended_from : {X : Type 0} (byte : ℕ) (reads : Reads X) (text : List ℕ) (s : X × List ℕ) → ended byte reads text ≡ Some s → (p : X × List ℕ) × (reads text ≡ Some p) × (p.0 ≡ s.0)
 ended_from byte reads text s h =

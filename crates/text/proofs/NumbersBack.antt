@@ -4,13 +4,13 @@ use native.Mathlib.Nat.{pow-le-pow_right}
 use Rattle.std.proofs.lemmas.Bool.{eq-eqb, ne_eqb, cases_lt, cases_eq}
 use Rattle.std.proofs.lemmas.Str.Parse.{IsNumeralModel, numerals_by_fold}
 use Rattle.std.proofs.lemmas.Fmt.{decimal_digit, decimal_nonempty, first_decimal, length-decimal-le, digits_decimal, digits_value-decimal}
-use Rattle.std.specs.List.{prefix_len, AllByRecursion as All}
+use Rattle.std.specs.List.{prefix_len, AllByRecursion}
 use Rattle.text.specs.Form.{digit, letter_or_digit, value, needless_zero, number_up_to, decimals, price, name}
 use Rattle.text.specs.Written.{price_text}
 use Rattle.text.proofs.RunsBack.{run_reads, within}
 
 abbrev pub Digits : List ℕ → Type 0
-Digits = All (λ b. digit b ≡ true)
+Digits = AllByRecursion (λ b. digit b ≡ true)
 
 pub own : IsNumeralModel Digits value
 own = numerals_by_fold _ (search rules) (λ n ds. fold (λ v b. v * 10 + (b - 48)) n ds) (search rules)
@@ -33,7 +33,7 @@ number_reads most n rest some le small stop =
     let one = decimal_nonempty n fits in
     rw (run_reads digit 1 most (decimal n) rest (digits_decimal own n fits) stop (omega arith) (length-decimal-le most n some small fits), plain n fits, digits_value-decimal own n fits) refl
 
-pub name_reads : (who rest : List ℕ) → All (λ b. letter_or_digit b ≡ true) who → 1 ≤ length who → length who ≤ 16 → prefix_len letter_or_digit rest ≡ 0 → name (who ++ rest) ≡ Some (who, rest)
+pub name_reads : (who rest : List ℕ) → AllByRecursion (λ b. letter_or_digit b ≡ true) who → 1 ≤ length who → length who ≤ 16 → prefix_len letter_or_digit rest ≡ 0 → name (who ++ rest) ≡ Some (who, rest)
 name_reads who rest all lo hi stop = run_reads letter_or_digit 1 16 who rest all stop lo hi
 
 pub cents_read : (euros x y : ℕ) (rest : List ℕ) → x < 10 → y < 10 → prefix_len digit rest ≡ 0 → decimals euros (44 ∷ (48 + x) ∷ (48 + y) ∷ rest) ≡ Some (euros * 100 + (x * 10 + y), rest)

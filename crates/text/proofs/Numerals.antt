@@ -1,15 +1,15 @@
 -- Digits and the number that they write.
-use Rattle.std.proofs.Common.{◌≡◌, ℕ, ◌+◌, ◌-◌, ◌*◌, ◌^◌, ◌<◌, ◌≤◌, Bool, true, false, cond, leb, List, [], ◌∷◌, ◌++◌, length, get_or, take, Some, fold, sym, refl, ap, ◌∙◌, pow-suc, add-one, arith, lit<, rules}
+use Rattle.std.proofs.Common.{◌≡◌, ℕ, ◌+◌, ◌-◌, ◌*◌, ◌^◌, ◌<◌, ◌≤◌, true, false, leb, List, length, get_or, take, Some, fold, sym, refl, ap, ◌∙◌, pow-suc, add-one, arith, lit<, rules}
 use native.Mathlib.Nat.{pow-le-pow_right}
 use Rattle.std.proofs.ByRecursion.{All-get_or}
 use Rattle.std.proofs.lemmas.Str.Parse.{IsNumeralModel, numerals_by_fold, digits_value_short}
 use Rattle.std.proofs.lemmas.List.Sums.{fold_more}
 use Rattle.std.proofs.lemmas.Bool.{and_parts, leb-true}
-use Rattle.std.specs.List.{AllByRecursion as All}
+use Rattle.std.specs.List.{AllByRecursion}
 use Rattle.text.specs.Form.{digit, value, run, needless_zero, number_up_to}
 
 abbrev pub Digits : List ℕ → Type 0
-Digits = All (λ b. digit b ≡ true)
+Digits = AllByRecursion (λ b. digit b ≡ true)
 
 pub digit_low : (b : ℕ) → digit b ≡ true → 48 ≤ b
 digit_low b is = leb-true 48 b (and_parts (leb 48 b) (leb b 57) is).0

@@ -1,9 +1,9 @@
 -- What makes a price.
-use Rattle.std.proofs.Common.{◌≡◌, ℕ, ◌+◌, ◌-◌, ◌*◌, ◌^◌, ◌<◌, ◌≤◌, cond, eqb, List, [], ◌∷◌, ◌++◌, length, get_or, take, drop, Some, None, Option, sym, refl, ap, ◌∙◌, ⊎_elim, arith, Bor}
-use Rattle.std.proofs.lemmas.List.{append_assoc, length-append, take_at, take_rest}
+use Rattle.std.proofs.Common.{IfSome, ◌≡◌, ℕ, ◌+◌, ◌-◌, ◌*◌, ◌^◌, ◌<◌, ◌≤◌, cond, eqb, List, ◌∷◌, ◌++◌, length, take, Some, None, Option, sym, refl, ap, ◌∙◌, ⊎_elim, arith, Bor}
+use Rattle.std.proofs.lemmas.List.{append_assoc, length-append, take_at}
 use Rattle.std.proofs.lemmas.Bool.{cases_eq, eq-eqb, ne_eqb}
 use Rattle.text.specs.Form.{digit, value, run, cents, decimals, price, number_up_to}
-use Rattle.text.specs.Tokens.{IfSome, Tail}
+use Rattle.text.specs.Tokens.{Tail}
 use Rattle.text.proofs.Numerals.{Digits, value_below}
 
 -- ---- one or two decimals

@@ -1,16 +1,11 @@
 -- What the readers answer, by its meaning: the value of a token and the text that follows it. Assumes nothing.
 use Rattle.std.specs.Prelude.{◌≡◌, ℕ, ◌^◌, ◌<◌, ◌≤◌, Bool, true, List, ◌∷◌, ◌++◌, length, Some, None, Option}
 use Rattle.std.specs.Borrow.{Bor}
-use Rattle.std.specs.List.{AllByRecursion as All}
+use Rattle.std.specs.List.{AllByRecursion}
 use Rattle.text.specs.declared.name.Name.{Name}
 use Rattle.text.specs.declared.number.Number.{Number}
 use Rattle.text.specs.declared.price.Price.{Price}
 use Rattle.text.specs.Form.{letter_or_digit, value as value_of_lem}
-
--- what holds of an answer, where there is one
-abbrev pub IfSome : {X : Type 0} → Option X → (X → Type 0) → Type 0
-IfSome None P = Unit {0}
-IfSome (Some x) P = P x
 
 -- what follows a part that has to stand there
 abbrev pub rest_read : Option (Bor (List ℕ)) → Option (List ℕ)
@@ -50,7 +45,7 @@ named_read (Some (name, number, rest)) = Some ((name.bytes.now, number.value), r
 -- a part that is the text as far as the rest, of bytes of one kind alone, and of so many
 pub record Part (kind : ℕ → Bool) (least most : ℕ) (text part rest : List ℕ) : Type 0 where
   pub stands : text ≡ part ++ rest
-  pub all : All (λ b. kind b ≡ true) part
+  pub all : AllByRecursion (λ b. kind b ≡ true) part
   pub low : least ≤ length part
   pub high : length part ≤ most
 

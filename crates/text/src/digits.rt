@@ -1,8 +1,8 @@
 //! Digits at the front of a text, and the number that they write.
-ghost use Rattle.std.specs.Prelude.{◌≡◌, ◌≤◌, true, length};
-ghost use Rattle.std.specs.List.{AllByRecursion as All};
+ghost use Rattle.std.specs.Prelude.{IfSome, ◌≡◌, ◌≤◌, true, length};
+ghost use Rattle.std.specs.List.{AllByRecursion};
 ghost use Rattle.text.specs.Form.{digit, needless_zero, run as run_of, value as value_of_lem};
-ghost use Rattle.text.specs.Tokens.{IfSome, Part, part_read};
+ghost use Rattle.text.specs.Tokens.{Part, part_read};
 
 use crate::run::{Bytes, run};
 
@@ -41,7 +41,7 @@ pub(crate) fn needless_zero(digits: &[u8]) -> bool
 
 /// The number that digits write.
 pub(crate) fn value(digits: &[u8]) -> u64
-    requires digits { All (λ b. digit b ≡ true) digits.now }
+    requires digits { AllByRecursion (λ b. digit b ≡ true) digits.now }
     requires few { length digits.now ≤ 10 }
     ensures { result ≡ value_of_lem digits.now }
 {

@@ -1,7 +1,7 @@
 //! The bytes that end a field and a line. They alone separate what a text holds, with the comma inside a price.
-ghost use Rattle.std.specs.Prelude.{◌≡◌, [], ◌∷◌};
+ghost use Rattle.std.specs.Prelude.{IfSome, ◌≡◌, [], ◌∷◌};
 ghost use Rattle.text.specs.Form.{after};
-ghost use Rattle.text.specs.Tokens.{IfSome, rest_read};
+ghost use Rattle.text.specs.Tokens.{rest_read};
 
 /// What follows the semicolon that ends a field.
 pub fn field_end<'a>(text: &'a [u8]) -> Option<&'a [u8]>

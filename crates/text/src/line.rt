@@ -1,9 +1,9 @@
 //! Lines of fields of one kind.
-ghost use Rattle.std.specs.Prelude.{◌≡◌, ℕ, ◌^◌, ◌<◌, ◌≤◌, length};
-ghost use Rattle.std.specs.List.{AllByRecursion as All};
+ghost use Rattle.std.specs.Prelude.{IfSome, ◌≡◌, ℕ, ◌^◌, ◌<◌, ◌≤◌, length};
+ghost use Rattle.std.specs.List.{AllByRecursion};
 ghost use Rattle.text.specs.Form.{Reads, field, fields, price as price_of, whole as whole_of};
 ghost use Rattle.text.specs.Lines.{number_line, price_line, short_line, values_of, values_read};
-ghost use Rattle.text.specs.Tokens.{IfSome, value_read};
+ghost use Rattle.text.specs.Tokens.{value_read};
 
 use crate::ends::line_end;
 use crate::number::number_field;
@@ -54,7 +54,7 @@ impl Kind for Prices {
 fn values<'a, K: Kind>(text: &'a [u8], count: usize) -> Option<(Values, &'a [u8])>
     requires { count ≤ 11 }
     ensures read { values_read result ≡ fields K.reads count text.now }
-    ensures small { IfSome result (λ p. All (λ v. v < K.limit) (values_of p.0)) }
+    ensures small { IfSome result (λ p. AllByRecursion (λ v. v < K.limit) (values_of p.0)) }
     ensures long { IfSome result (λ p. length (values_of p.0) ≡ count) }
 {
     let mut all = [0; MOST_FIELDS];
@@ -70,7 +70,7 @@ fn values<'a, K: Kind>(text: &'a [u8], count: usize) -> Option<(Values, &'a [u8]
 /// A line of `count` fields, and what follows its line feed; none also where more are asked for than a line may have.
 fn line<'a, K: Kind>(text: &'a [u8], count: usize) -> Option<(Values, &'a [u8])>
     ensures read { values_read result ≡ short_line K.reads count text.now }
-    ensures small { IfSome result (λ p. All (λ v. v < K.limit) (values_of p.0)) }
+    ensures small { IfSome result (λ p. AllByRecursion (λ v. v < K.limit) (values_of p.0)) }
     ensures long { IfSome result (λ p. length (values_of p.0) ≡ count) }
 {
     if count > MOST_FIELDS {
@@ -84,7 +84,7 @@ fn line<'a, K: Kind>(text: &'a [u8], count: usize) -> Option<(Values, &'a [u8])>
 /// for than a line may have.
 pub fn number_line<'a>(text: &'a [u8], count: usize) -> Option<(Values, &'a [u8])>
     ensures read { values_read result ≡ number_line count text.now }
-    ensures small { IfSome result (λ p. All (λ v. v < 10 ^ 10) (values_of p.0)) }
+    ensures small { IfSome result (λ p. AllByRecursion (λ v. v < 10 ^ 10) (values_of p.0)) }
     ensures long { IfSome result (λ p. length (values_of p.0) ≡ count) }
 {
     line::<Wholes>(text, count)
@@ -94,7 +94,7 @@ pub fn number_line<'a>(text: &'a [u8], count: usize) -> Option<(Values, &'a [u8]
 /// asked for than a line may have.
 pub fn price_line<'a>(text: &'a [u8], count: usize) -> Option<(Values, &'a [u8])>
     ensures read { values_read result ≡ price_line count text.now }
-    ensures small { IfSome result (λ p. All (λ v. v < 10 ^ 9) (values_of p.0)) }
+    ensures small { IfSome result (λ p. AllByRecursion (λ v. v < 10 ^ 9) (values_of p.0)) }
     ensures long { IfSome result (λ p. length (values_of p.0) ≡ count) }
 {
     line::<Prices>(text, count)

@@ -1,7 +1,7 @@
 //! Names: of who offers, as they stand in a text.
-ghost use Rattle.std.specs.Prelude.{◌≡◌, ◌∷◌};
+ghost use Rattle.std.specs.Prelude.{IfSome, ◌≡◌, ◌∷◌};
 ghost use Rattle.text.specs.Form.{field, letter_or_digit, name as name_of, named};
-ghost use Rattle.text.specs.Tokens.{IfSome, NamedAt, Part, name_read, named_read};
+ghost use Rattle.text.specs.Tokens.{NamedAt, Part, name_read, named_read};
 
 use crate::ends::field_end;
 use crate::number::{Number, closing_number};

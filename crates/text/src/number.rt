@@ -1,7 +1,7 @@
 //! Whole numbers.
-ghost use Rattle.std.specs.Prelude.{◌≡◌, ◌≤◌, ◌∷◌};
+ghost use Rattle.std.specs.Prelude.{IfSome, ◌≡◌, ◌≤◌, ◌∷◌};
 ghost use Rattle.text.specs.Form.{ended, field, number_up_to, whole as whole_of};
-ghost use Rattle.text.specs.Tokens.{IfSome, NumberAt, number_read};
+ghost use Rattle.text.specs.Tokens.{NumberAt, number_read};
 
 use crate::digits::{digits, needless_zero, value};
 use crate::ends::{field_end, line_end};

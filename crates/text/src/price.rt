@@ -1,7 +1,7 @@
 //! Prices.
-ghost use Rattle.std.specs.Prelude.{◌≡◌, ◌^◌, ◌<◌, ◌∷◌, if◌then◌else◌, nat_eq};
+ghost use Rattle.std.specs.Prelude.{IfSome, ◌≡◌, ◌^◌, ◌<◌, ◌∷◌, if◌then◌else◌, nat_eq};
 ghost use Rattle.text.specs.Form.{cents as cents_of, decimals as decimals_of, ended, field, price as price_of};
-ghost use Rattle.text.specs.Tokens.{IfSome, PriceAt, Tail, price_read, value_read};
+ghost use Rattle.text.specs.Tokens.{PriceAt, Tail, price_read, value_read};
 
 use crate::digits::{digits, value};
 use crate::ends::{field_end, line_end};

@@ -1,8 +1,8 @@
 //! Bytes of one kind at the front of a text.
-ghost use Rattle.std.specs.Prelude.{◌≡◌, ℕ, ◌≤◌, Bool, length};
+ghost use Rattle.std.specs.Prelude.{IfSome, ◌≡◌, ℕ, ◌≤◌, Bool, length};
 ghost use Rattle.std.specs.List.{prefix_len as leading_of};
 ghost use Rattle.text.specs.Form.{run as run_of};
-ghost use Rattle.text.specs.Tokens.{IfSome, Part, part_read};
+ghost use Rattle.text.specs.Tokens.{Part, part_read};
 
 /// A kind of byte.
 pub(crate) trait Bytes {

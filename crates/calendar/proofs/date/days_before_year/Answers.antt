@@ -1,4 +1,4 @@
-use Rattle.std.proofs.Common.{◌≡◌, sym, ◌∙◌, arith, rules}
+use Rattle.std.proofs.Common.{arith, rules}
 use Rattle.calendar.proofs.Years.{year_more}
 use Rattle.calendar.proofs.date.days_before_year.Goals as goal
 

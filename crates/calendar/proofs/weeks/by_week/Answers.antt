@@ -1,4 +1,4 @@
-use Rattle.std.proofs.Common.{◌≡◌, ℕ, ◌+◌, ◌/◌, ◌<◌, ◌≤◌, get_or, set, sym, refl, ap, ◌∙◌, subst, arith}
+use Rattle.std.proofs.Common.{◌≡◌, ◌+◌, ◌/◌, ◌<◌, get_or, sym, ap, arith}
 use Rattle.calendar.specs.Periods.{since_monday, by_week}
 use Rattle.calendar.proofs.ByWeek.{month_more, month_none, part_most}
 use Rattle.calendar.proofs.weeks.by_week.Goals as goal

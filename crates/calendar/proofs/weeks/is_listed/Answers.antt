@@ -1,4 +1,4 @@
-use Rattle.std.proofs.Common.{◌≡◌, sym, ◌∙◌, arith}
+use Rattle.std.proofs.Common.{sym, ◌∙◌, arith}
 use Rattle.calendar.proofs.Days.{listed_here, listed_later, listed_none}
 use Rattle.calendar.proofs.weeks.is_listed.Goals as goal
 

@@ -17,8 +17,8 @@ overflow_sub-place c =
     let here = All-get_or (λ p. (1 ≤ p) × (p ≤ 11)) c.args.periods.now c.loop-period.period-index 0 c.loop-period-test.true c.requires.inside in
     omega arith
 
-pub offset-bounds-rows-place : goal.offset-bounds-rows-place
-offset-bounds-rows-place c =
+pub offset_bounds-rows-place : goal.offset_bounds-rows-place
+offset_bounds-rows-place c =
     let here = All-get_or (λ p. (1 ≤ p) × (p ≤ 11)) c.args.periods.now c.loop-period.period-index 0 c.loop-period-test.true c.requires.inside in
     search rules
 

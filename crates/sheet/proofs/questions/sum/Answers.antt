@@ -4,7 +4,7 @@ use Rattle.sheet.proofs.questions.sum.Goals as goal
 
 pub loop-width-preserved : goal.loop-width-preserved
 loop-width-preserved c =
-    let small = c.type-inv.widths c.loop-width.width-index in (
+    let small = c.type_inv.widths c.loop-width.width-index in (
       total_more c.args.widths.now c.loop-width.width-index c.loop-width.all c.from-all.result c.loop-width-test.true c.from-all.ensures c.loop-width.invariant.0,
       omega (arith, c.from-all.ensures, c.loop-width.invariant.1, small),
     )

@@ -1,5 +1,5 @@
 use Rattle.std.proofs.Common.{◌≤◌, ltb, length, sym, ap, ◌∙◌, subst, arith, rules}
-use Rattle.std.specs.List.{AllByRecursion as All}
+use Rattle.std.specs.List.{AllByRecursion}
 use Rattle.std.proofs.ByRecursion.{All-weaker}
 use Rattle.text.specs.Lines.{values_of}
 use Rattle.sheet.specs.Sheet.{chain}
@@ -13,7 +13,7 @@ read_rows-requires c =
     record {
       ranges = search rules;
       few = omega (arith, ap length same, fits.long, c.in_ok-shape.ensures.fits.2, c.requires.few);
-      inside = subst (All (λ p. (1 ≤ p) × (p ≤ 11))) (sym same) (All-weaker (λ p. (1 ≤ p) × (p ≤ c.args.periods)) (λ p. (1 ≤ p) × (p ≤ 11)) (λ p h. (h.0, omega (arith, c.requires.few))) periods fits.each);
+      inside = subst (AllByRecursion (λ p. (1 ≤ p) × (p ≤ 11))) (sym same) (All-weaker (λ p. (1 ≤ p) × (p ≤ c.args.periods)) (λ p. (1 ≤ p) × (p ≤ 11)) (λ p h. (h.0, omega (arith, c.requires.few))) periods fits.each);
       rising = ap (chain ltb) same ∙ fits.rising;
       near = search rules;
     }

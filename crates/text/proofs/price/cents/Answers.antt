@@ -1,4 +1,4 @@
-use Rattle.std.proofs.Common.{◌*◌, ◌<◌, arith, rules}
+use Rattle.std.proofs.Common.{◌*◌, ◌<◌, arith}
 use Rattle.text.proofs.Prices.{cents_are, cents_small}
 use Rattle.text.proofs.price.cents.Goals as goal
 

@@ -5,10 +5,10 @@ use Rattle.book.proofs.Allowed.{amended_nowhere, amended_somewhere}
 use Rattle.book.proofs.Placed.{replaced_placed}
 use Rattle.book.proofs.table.Table.amend.Goals as goal
 
-pub returns-in-default : goal.returns-in-default
-returns-in-default c =
+pub returns-in_default : goal.returns-in_default
+returns-in_default c =
     record {
-      value = amended_nowhere c.args.periods (offers_of c.args.self.now) (facts c.args.offer) (sym c.in-default.ensures.value);
+      value = amended_nowhere c.args.periods (offers_of c.args.self.now) (facts c.args.offer) (sym c.in_default.ensures.value);
       after = refl;
     }
 

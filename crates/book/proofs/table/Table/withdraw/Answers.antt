@@ -4,10 +4,10 @@ use Rattle.book.proofs.Allowed.{withdrawn_nowhere, withdrawn_somewhere}
 use Rattle.book.proofs.Placed.{others_placed}
 use Rattle.book.proofs.table.Table.withdraw.Goals as goal
 
-pub returns-in-default : goal.returns-in-default
-returns-in-default c =
+pub returns-in_default : goal.returns-in_default
+returns-in_default c =
     record {
-      value = withdrawn_nowhere c.args.name.now c.args.number (offers_of c.args.self.now) (sym c.in-default.ensures.value);
+      value = withdrawn_nowhere c.args.name.now c.args.number (offers_of c.args.self.now) (sym c.in_default.ensures.value);
       after = refl;
     }
 

@@ -1,8 +1,8 @@
-use Rattle.std.proofs.Common.{◌≡◌, ℕ, ◌≤◌, true, false, List, length, Ok, sym, refl, ap, ◌∙◌, subst, arith}
-use Rattle.calendar.specs.Date.{month_length, first_weekday}
+use Rattle.std.proofs.Common.{◌≡◌, ◌≤◌, length, Ok, sym, ap, ◌∙◌, subst}
+use Rattle.calendar.specs.Date.{first_weekday}
 use Rattle.calendar.specs.Kept.{Kept}
 use Rattle.calendar.specs.Month.{day_counts}
-use Rattle.calendar.specs.Opening.{announced, rising, month_periods}
+use Rattle.calendar.specs.Opening.{rising, month_periods}
 use Rattle.calendar.specs.Periods.{periods}
 use Rattle.calendar.proofs.Openings.{unannounced, unrisen, dated_opens, date_not_weeks, ok_not_weeks}
 use Rattle.calendar.proofs.month.Calendar.open.Goals as goal

@@ -1,4 +1,4 @@
-use Rattle.std.proofs.Common.{◌≡◌, sym, ◌∙◌, arith}
+use Rattle.std.proofs.Common.{sym, ◌∙◌, arith}
 use Rattle.calendar.proofs.Days.{falls_back, goes_past, rises, risen}
 use Rattle.calendar.proofs.month.opening.is_rising.Goals as goal
 

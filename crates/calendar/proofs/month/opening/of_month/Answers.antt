@@ -1,4 +1,4 @@
-use Rattle.std.proofs.Common.{◌≡◌, ℕ, ltb, List, filter, sym, ap, ◌∙◌, subst, arith}
+use Rattle.std.proofs.Common.{◌≡◌, ltb, filter, sym, ap, ◌∙◌, subst, arith}
 use Rattle.calendar.specs.Kept.{Kept, sound}
 use Rattle.calendar.specs.Month.{day_counts}
 use Rattle.calendar.specs.Periods.{periods}

@@ -1,4 +1,4 @@
-use Rattle.std.proofs.Common.{◌≡◌, ◌<◌, ◌≤◌, true, ltb, length, get_or, take, set, filter, sym, refl, ap, ◌∙◌, subst, arith, rules}
+use Rattle.std.proofs.Common.{◌<◌, ltb, get_or, filter, ap, ◌∙◌, arith}
 use Rattle.std.proofs.lemmas.List.{take_all}
 use Rattle.calendar.specs.Kept.{sound}
 use Rattle.calendar.proofs.Packs.{few_periods, room_left, turned_more, turned_same}
@@ -29,7 +29,8 @@ pub invariant_of-result : goal.invariant_of-result
 invariant_of-result c = record {
   room = c.loop-part.invariant.0;
   few = c.loop-part.invariant.1;
-  kept = ap sound (c.loop-part.invariant.2 ∙ ap (filter (ltb 0)) (take_all c.loop-part.part-index c.args.parts.now c.loop-part-test.false)) ∙ c.requires }
+  kept = ap sound (c.loop-part.invariant.2 ∙ ap (filter (ltb 0)) (take_all c.loop-part.part-index c.args.parts.now c.loop-part-test.false)) ∙ c.requires;
+}
 
 pub returns : goal.returns
 returns c = c.loop-part.invariant.2 ∙ ap (filter (ltb 0)) (take_all c.loop-part.part-index c.args.parts.now c.loop-part-test.false)

@@ -4,8 +4,8 @@ use Rattle.std.proofs.lemmas.List.{length-set}
 use Rattle.sheet.proofs.Short.{copy_more, copy_all}
 use Rattle.sheet.proofs.offer.PerRange.of.Goals as goal
 
-pub overflow-cast-numbers : goal.overflow-cast-numbers
-overflow-cast-numbers c =
+pub overflow_cast-numbers : goal.overflow_cast-numbers
+overflow_cast-numbers c =
     let small : get_or c.args.values.now c.loop-range.range 0 < 2 ^ 32 = All-get_or (λ v. v < 2 ^ 32) c.args.values.now c.loop-range.range 0 (search rules) c.requires.small in
     search rules
 
