@@ -1,5 +1,5 @@
 -- The prices of a period, as an offer answers them, and sums of widths.
-use Rattle.std.proofs.Common.{◌≡◌, ℕ, ◌+◌, ◌*◌, ◌<◌, ◌≤◌, List, [], ◌∷◌, map, length, get_or, drop, Some, None, Option, sym, refl, ap, ◌∙◌, arith}
+use Rattle.std.proofs.Common.{◌≡◌, ℕ, ◌+◌, ◌<◌, ◌≤◌, List, [], map, length, get_or, drop, Some, None, Option, sym, ap, ◌∙◌, arith}
 use Rattle.std.proofs.lemmas.List.{get_or-map, get_or_past, length-map, at_drop_more, at_drop_all}
 use Rattle.sheet.specs.declared.offer.PerRange.{PerRange}
 use Rattle.sheet.specs.Facts.{numbers_of, row_facts}

@@ -1,6 +1,6 @@
 -- One text put after another.
-use Rattle.std.proofs.Common.{◌≡◌, ℕ, zero, suc, ◌+◌, ◌*◌, ◌^◌, ◌<◌, ◌≤◌, List, [], ◌∷◌, ◌++◌, map, length, get_or, take, drop, set, Ok, decimal, sym, refl, ap, ◌∙◌, subst, append_assoc, add-zero, mul-add, arith, length-append}
-use Rattle.std.proofs.lemmas.List.{length-set, take_more, take_more_set, drop-set-lt, length-take-le, take_all, map_more}
+use Rattle.std.proofs.Common.{◌≡◌, ℕ, zero, suc, ◌+◌, ◌*◌, ◌^◌, ◌<◌, ◌≤◌, List, [], ◌∷◌, ◌++◌, map, length, get_or, take, drop, set, Ok, decimal, sym, refl, ap, ◌∙◌, append_assoc, add-zero, mul-add, arith, length-append}
+use Rattle.std.proofs.lemmas.List.{length-set, take_more, take_more_set, drop-set-lt, take_all, map_more}
 use Rattle.std.proofs.lemmas.Fmt.{length-decimal-le}
 use Rattle.std.specs.List.{concat}
 use Rattle.text.specs.Written.{line_text}

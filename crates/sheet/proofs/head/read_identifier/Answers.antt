@@ -1,4 +1,5 @@
 use Rattle.std.proofs.Common.{◌≡◌, leb, Ok, sym, ap, ◌∙◌}
+use Rattle.std.specs.Result.{result_ok}
 use Rattle.std.proofs.lemmas.Bool.{le-leb}
 use Rattle.text.specs.Form.{named}
 use Rattle.text.specs.Tokens.{named_read}
@@ -15,6 +16,6 @@ returns c =
     let name = c.in_ok-name.name.bytes.now in
     let number = c.in_ok-name.number.value in
     let rest = c.in_ok-name.rest.now in
-    let read : ? = {! c.in_ok-name.ensures !} in
+    let read = sym c.named_line.ensures.read ∙ ap named_read (c.ok_or.ensures.ok_part ∙ ap result_ok (c.in_ok-name.was {u = tt})) in
     let says : identifier_line line text ≡ Ok ((name, number), rest) = line_reads named (λ id. leb id.1 highest_number) itself line text rest (name, number) read (le-leb number highest_number c.if-number-gt-HIGHEST_NUMBER.false) in
     record { says = sym says; few = (identifier_keeps line text ((name, number), rest) says).0.2 }

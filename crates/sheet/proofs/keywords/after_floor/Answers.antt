@@ -1,5 +1,5 @@
 use Rattle.std.proofs.Common.{codes, sym, ◌∙◌}
-use Rattle.text.proofs.Keywords.{chain, chain_none}
+use Rattle.text.proofs.Keywords.{chain}
 use Rattle.sheet.proofs.keywords.after_floor.Goals as goal
 
 pub returns : goal.returns

@@ -1,4 +1,4 @@
-use Rattle.std.proofs.Common.{[], ◌∷◌, ◌++◌, decimal, ap, ◌∙◌, append_assoc, arith}
+use Rattle.std.proofs.Common.{[], ◌∷◌, decimal, ap, append_assoc, arith}
 use Rattle.text.specs.Written.{line_text}
 use Rattle.sheet.proofs.Puts.{put_as, put_then}
 use Rattle.sheet.proofs.save.put_identifier_line.Goals as goal

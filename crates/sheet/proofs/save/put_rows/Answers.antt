@@ -1,4 +1,4 @@
-use Rattle.std.proofs.Common.{◌++◌, map, take, is_some, sym, ap, ◌∙◌, arith, rules}
+use Rattle.std.proofs.Common.{◌++◌, map, take, is_some, sym, ap, ◌∙◌, arith}
 use Rattle.std.specs.List.{concat}
 use Rattle.std.proofs.lemmas.List.{take_all}
 use Rattle.text.specs.Written.{line_text, price_text}

@@ -1,4 +1,4 @@
-use Rattle.std.proofs.Common.{cond, [], ◌∷◌, ◌++◌, map, length, decimal, ap, ◌∙◌, append_assoc, arith}
+use Rattle.std.proofs.Common.{cond, [], ◌∷◌, ◌++◌, length, decimal, ap, ◌∙◌, append_assoc, arith}
 use Rattle.sheet.specs.Sheet.{priced}
 use Rattle.sheet.proofs.Puts.{put_as, put_text, put_then}
 use Rattle.sheet.proofs.save.put_shape_line.Goals as goal

@@ -1,4 +1,4 @@
-use Rattle.std.proofs.Common.{sym, refl, arith, rules}
+use Rattle.std.proofs.Common.{sym, arith, rules}
 use Rattle.std.proofs.lemmas.Fmt.{decimal_digit, decimal_step}
 use Rattle.sheet.proofs.Puts.{put_as, put_then, put_decimal}
 use Rattle.sheet.proofs.writing.+put_number.Goals as goal

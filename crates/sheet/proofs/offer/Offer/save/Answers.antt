@@ -1,4 +1,3 @@
-use Rattle.std.proofs.Common.{arith}
 use Rattle.sheet.proofs.Puts.{put_answer, put_buffer}
 use Rattle.sheet.proofs.offer.Offer.save.Goals as goal
 
