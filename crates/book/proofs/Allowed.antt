@@ -1,11 +1,10 @@
 -- Amendments and withdrawals by the place of the offer.
-use Rattle.std.proofs.Common.{◌≡◌, ℕ, ◌+◌, ◌≤◌, Bool, true, false, cond, List, ◌++◌, take, drop, is_some, Some, None, Ok, Err, Option, Result, sym, refl, ap, ◌∙◌}
+use Rattle.std.proofs.Common.{◌≡◌, ℕ, ◌+◌, ◌≤◌, true, false, List, ◌++◌, take, drop, is_some, Some, None, Ok, Err, refl, ap, ◌∙◌}
 use Rattle.sheet.specs.Offer.{Offer}
 use Rattle.book.specs.Calls.{amendable, withdrawable}
 use Rattle.book.specs.Limits.{is, count}
-use Rattle.book.specs.Roll.{stands, others, beside}
+use Rattle.book.specs.Roll.{stands, beside}
 use Rattle.book.specs.Table.{place_of}
-use Rattle.book.specs.declared.fault.RegisterFault.{RegisterFault}
 use Rattle.book.specs.declared.fault.RegisterFault.TheVariants.{Unknown}
 use Rattle.book.proofs.Placed.{stands_placed, others_placed}
 

@@ -1,5 +1,5 @@
 -- The offers before a place and those after it.
-use Rattle.std.proofs.Common.{◌≡◌, ℕ, ◌+◌, ◌-◌, ◌≤◌, List, [], ◌∷◌, ◌++◌, map, length, take, drop, sym, refl, ap, ◌∙◌, arith, length-drop}
+use Rattle.std.proofs.Common.{◌≡◌, ℕ, ◌+◌, ◌-◌, List, ◌++◌, map, length, take, drop, sym, ap, ◌∙◌, arith, length-drop}
 use native.Mathlib.Nat.{sub-zero}
 use Rattle.std.proofs.lemmas.List.{take-map, drop-map, take_all}
 use Rattle.sheet.specs.declared.offer.Offer.{Offer as Kept}

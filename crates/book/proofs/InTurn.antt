@@ -1,10 +1,9 @@
 -- One sheet of a deposit after another.
-use Rattle.std.proofs.Common.{◌≡◌, ℕ, zero, suc, ◌+◌, ◌-◌, ◌<◌, ◌≤◌, min, List, [], ◌∷◌, ◌++◌, length, Ok, Err, Result, sym, refl, ap, ◌∙◌, arith}
+use Rattle.std.proofs.Common.{◌≡◌, ℕ, zero, suc, ◌+◌, ◌-◌, ◌<◌, List, [], ◌∷◌, ◌++◌, length, Ok, refl, ap, ◌∙◌, arith}
 use Rattle.sheet.specs.Offer.{Offer}
 use Rattle.sheet.specs.Sheet.{read, lines}
 use Rattle.book.specs.Deposit.{entering, deposited}
 use Rattle.book.specs.Roll.{admitted}
-use Rattle.book.specs.declared.fault.RegisterFault.{RegisterFault}
 
 pub entering_more : (T turns before : ℕ) (offers : List Offer) (text : List ℕ) (o : Offer) (rest : List ℕ) → 0 < length text → 0 < turns → Ok (o, rest) ≡ read T before text → Ok tt ≡ admitted T offers o → entering T turns before offers text ≡ entering T (turns - 1) (before + lines o) (offers ++ (o ∷ [])) rest
 entering_more T turns before offers [] o rest some left sheet enters = absurd (omega arith)

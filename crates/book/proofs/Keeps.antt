@@ -1,8 +1,7 @@
 -- What stands after a call keeps the limits, as it did before.
-use Rattle.std.proofs.Common.{◌≡◌, ℕ, true, List, [], ◌∷◌, ◌++◌, length, Ok, Err, Result, sym, refl, ap, ◌∙◌, subst}
+use Rattle.std.proofs.Common.{◌≡◌, ℕ, true, List, [], ◌∷◌, ◌++◌, length, Ok, Err, Result, sym, ap, ◌∙◌}
 use Rattle.sheet.specs.Offer.{Offer}
 use Rattle.sheet.specs.Sheet.{read_alone}
-use Rattle.text.specs.Judging.{◌>>◌, must}
 use Rattle.book.specs.Calls.{amendable, if_ok}
 use Rattle.book.specs.Roll.{stands, others, beside, admitted, replaced}
 use Rattle.book.specs.Within.{within}

@@ -1,7 +1,6 @@
 -- A new register.
-use Rattle.std.proofs.Common.{◌≡◌, ℕ, zero, suc, ◌≤◌, List, [], ◌∷◌, length, take, replicate, sym, refl, ap, ◌∙◌, arith}
+use Rattle.std.proofs.Common.{◌≡◌, ℕ, zero, suc, ◌≤◌, List, ◌∷◌, take, replicate, refl, ap, ◌∙◌, arith}
 use Rattle.sheet.specs.Offer.{Offer}
-use Rattle.book.specs.Needs.{no_need}
 use Rattle.book.specs.Roll.{Roll}
 use Rattle.book.specs.declared.need.Need.{Need}
 

@@ -1,5 +1,5 @@
 -- An offer by its place, where each identifier stands once.
-use Rattle.std.proofs.Common.{◌≡◌, ℕ, zero, suc, ◌+◌, ◌-◌, ◌<◌, ◌≤◌, Bool, true, false, cond, not, List, [], ◌∷◌, ◌++◌, map, length, get_or, take, drop, set, is_some, Some, None, filter, Option, sym, refl, ap, ◌∙◌, subst, add-zero, add-one, arith}
+use Rattle.std.proofs.Common.{◌≡◌, ℕ, suc, ◌+◌, ◌-◌, ◌≤◌, Bool, true, false, cond, not, List, [], ◌∷◌, ◌++◌, get_or, take, drop, set, is_some, Some, None, refl, ap, ◌∙◌, subst, arith}
 use Rattle.sheet.specs.Offer.{Offer}
 use Rattle.book.specs.Limits.{is, count}
 use Rattle.book.specs.Roll.{standing, stands, others, replaced}

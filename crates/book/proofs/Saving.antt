@@ -1,23 +1,22 @@
 -- A save, by the text that it writes.
-use Rattle.std.proofs.Common.{◌≡◌, ℕ, ◌<◌, Bool, true, false, cond, leb, List, [], ◌∷◌, ◌++◌, map, length, get_or, take, drop, Some, None, Ok, Err, Option, Result, sym, refl, ap, ◌∙◌, subst, arith, take_at}
+use Rattle.std.proofs.Common.{◌≡◌, ℕ, ◌<◌, Bool, true, false, cond, leb, List, [], ◌++◌, map, length, get_or, take, drop, Some, None, Ok, Err, Option, Result, sym, refl, ap, ◌∙◌, subst, arith, take_at}
 use Rattle.std.specs.Option.{ok_or}
 use Rattle.std.proofs.lemmas.List.{get_or-map}
 use Rattle.text.specs.Judging.{◌>>=◌, ◌>>◌, must}
 use Rattle.sheet.specs.Facts.{facts}
 use Rattle.sheet.specs.Offer.{Offer}
-use Rattle.sheet.specs.Saved.{written, save_answer, buffer_after}
+use Rattle.sheet.specs.Saved.{written, save_answer}
 use Rattle.sheet.specs.declared.fault.SaveFault.{SaveFault}
 use Rattle.sheet.specs.declared.fault.SaveFault.TheVariants.{Space as NoSpace}
 use Rattle.sheet.specs.declared.offer.Offer.{Offer as Kept}
 use Rattle.book.specs.Calls.{saved_length, saved_buffer}
-use Rattle.book.specs.Fault.{number_and_place}
 use Rattle.book.specs.Register.{save_answer_of}
-use Rattle.book.specs.Roll.{Roll, standing, saved}
-use Rattle.book.specs.Step.{Answer, text_saved, refusal, of_save, BufferAfter}
+use Rattle.book.specs.Roll.{Roll, standing}
+use Rattle.book.specs.Step.{text_saved, of_save, BufferAfter}
 use Rattle.book.specs.Table.{place_of}
 use Rattle.book.specs.declared.fault.RegisterFault.{RegisterFault}
 use Rattle.book.specs.declared.fault.RegisterFault.TheVariants.{Unknown, Space}
-use Rattle.book.proofs.Placed.{standing_placed, unplaced}
+use Rattle.book.proofs.Placed.{standing_placed}
 
 -- ---- one offer
 

@@ -1,5 +1,5 @@
 -- A call on a register is the roll's own step.
-use Rattle.std.proofs.Common.{◌≡◌, ℕ, zero, suc, ◌-◌, ◌≤◌, true, false, cond, List, [], ◌∷◌, ◌++◌, take, set, Ok, Err, Result, sym, refl, ap, ◌∙◌, subst, arith}
+use Rattle.std.proofs.Common.{◌≡◌, ℕ, zero, suc, ◌-◌, ◌≤◌, List, [], ◌∷◌, ◌++◌, take, set, Ok, Err, Result, sym, refl, ap, ◌∙◌, subst, arith}
 use Rattle.std.proofs.lemmas.Bool.{le-leb}
 use Rattle.book.specs.declared.need.Need.{Need}
 use Rattle.sheet.specs.Offer.{Offer}
@@ -9,10 +9,10 @@ use Rattle.text.specs.Judging.{◌>>=◌, ◌>>◌, must}
 use Rattle.book.specs.Calls.{amendable, withdrawable, if_ok}
 use Rattle.book.specs.Fault.{of_sheet}
 use Rattle.book.specs.Register.{answer_of}
-use Rattle.book.specs.Roll.{Roll, stands, others, beside, admitted, with, replaced, entered, amended, withdrawn}
-use Rattle.book.specs.Step.{Step, Changed, enter, amend, withdraw, need, accepted, refusal}
+use Rattle.book.specs.Roll.{Roll, stands, others, beside, admitted, replaced, entered, amended, withdrawn}
+use Rattle.book.specs.Step.{Step, Changed, enter, amend, withdraw, need, accepted}
 use Rattle.book.specs.declared.fault.RegisterFault.{RegisterFault}
-use Rattle.book.specs.declared.fault.RegisterFault.TheVariants.{Sheet, Unknown}
+use Rattle.book.specs.declared.fault.RegisterFault.TheVariants.{Unknown}
 
 -- a call that is refused, or leaves the roll that it makes
 pub changed : (e : Result Roll RegisterFault) (roll next : Roll) (r : Result (Unit {0}) RegisterFault) (after : Roll) → e ≡ (r >> Ok next) → after ≡ if_ok r next roll → Changed e roll (answer_of r) after

@@ -1,6 +1,6 @@
 -- What the clerk's calls make of a list of offers: its part of the roll's own steps. Assumes nothing.
-use Rattle.std.specs.Prelude.{ℕ, cond, List, [], ◌∷◌, ◌++◌, length, Some, None, Ok, Err, Option, Result, nat_le}
-use Rattle.text.specs.Judging.{◌>>=◌, ◌>>◌, must}
+use Rattle.std.specs.Prelude.{ℕ, cond, List, length, Some, None, Ok, Err, Option, Result, nat_le}
+use Rattle.text.specs.Judging.{◌>>◌, must}
 use Rattle.sheet.specs.Offer.{Offer}
 use Rattle.sheet.specs.Saved.{written, buffer_after}
 use Rattle.book.specs.Roll.{stands, others, beside}

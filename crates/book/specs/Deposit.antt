@@ -1,7 +1,7 @@
 -- The deposit: several sheets in one text, which enter a new register in turn. Assumes nothing.
 use Rattle.std.specs.Prelude.{◌≡◌, ℕ, zero, suc, ◌+◌, false, List, [], ◌∷◌, ◌++◌, map, Ok, Err, Result, ◌≢◌}
 use Rattle.std.specs.List.{concat}
-use Rattle.text.specs.Judging.{◌>>=◌, ◌>>◌}
+use Rattle.text.specs.Judging.{◌>>=◌}
 use Rattle.sheet.specs.Offer.{Offer, total}
 use Rattle.sheet.specs.Sheet.{read, lines}
 use Rattle.sheet.specs.declared.fault.SheetFault.{SheetFault}

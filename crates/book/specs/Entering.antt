@@ -1,5 +1,5 @@
 -- A register made from a deposit. Assumes nothing.
-use Rattle.std.specs.Prelude.{◌≡◌, ℕ, List, length, replicate, Ok, Err, Result}
+use Rattle.std.specs.Prelude.{◌≡◌, List, length, replicate, Ok, Err, Result}
 use Rattle.calendar.specs.Month.{day_counts}
 use Rattle.calendar.specs.declared.month.Calendar.{Calendar}
 use Rattle.book.specs.Needs.{no_need}

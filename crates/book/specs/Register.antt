@@ -1,5 +1,5 @@
 -- What a register means, and how its calls answer. Assumes nothing.
-use Rattle.std.specs.Prelude.{◌≡◌, ℕ, cond, List, length, take, Ok, Err, Result}
+use Rattle.std.specs.Prelude.{ℕ, List, length, take, Ok, Err, Result}
 use Rattle.calendar.specs.Month.{day_counts}
 use Rattle.sheet.specs.Facts.{facts}
 use Rattle.sheet.specs.Offer.{Offer}

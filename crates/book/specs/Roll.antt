@@ -1,5 +1,5 @@
 -- The roll, a plain list of the offers that stand with the needs, and what the clerk's calls make of it. Assumes nothing.
-use Rattle.std.specs.Prelude.{ℕ, ◌-◌, Bool, true, false, cond, not, ◌&&◌, ltb, List, [], ◌∷◌, ◌++◌, map, length, replicate, is_some, Some, None, Ok, Err, filter, Option, Result, nat_le, nat_lt, slice_set}
+use Rattle.std.specs.Prelude.{ℕ, ◌-◌, Bool, cond, not, ◌&&◌, ltb, List, [], ◌∷◌, ◌++◌, map, length, replicate, is_some, Some, None, Ok, Err, filter, Option, Result, nat_le, nat_lt, slice_set}
 use Rattle.std.specs.List.{range_with_len}
 use Rattle.std.specs.Option.{ok_or}
 use Rattle.text.specs.Form.{between}

@@ -1,4 +1,4 @@
-use Rattle.std.proofs.Common.{cond, length, arith}
+use Rattle.std.proofs.Common.{cond, arith}
 use Rattle.book.specs.Limits.{has_block}
 use Rattle.book.proofs.Adding.{added_more, added_all}
 use Rattle.book.proofs.judging.block_count.Goals as goal

@@ -1,4 +1,4 @@
-use Rattle.std.proofs.Common.{◌≡◌, ℕ, ◌+◌, ◌*◌, ◌≤◌, cond, length, drop}
+use Rattle.std.proofs.Common.{◌≡◌, ℕ, ◌+◌, ◌*◌, ◌≤◌, cond, drop}
 use Rattle.book.specs.Limits.{has_block}
 use Rattle.sheet.specs.Offer.{Offer}
 use Rattle.book.proofs.Adding.{added}

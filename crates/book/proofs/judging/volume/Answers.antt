@@ -1,4 +1,4 @@
-use Rattle.std.proofs.Common.{cond, length, arith}
+use Rattle.std.proofs.Common.{cond, arith}
 use Rattle.sheet.specs.Offer.{width}
 use Rattle.book.specs.Limits.{is_of}
 use Rattle.book.proofs.Adding.{added_more, added_all}

@@ -1,4 +1,4 @@
-use Rattle.std.proofs.Common.{◌≡◌, ℕ, ◌+◌, ◌*◌, ◌≤◌, cond, length, drop}
+use Rattle.std.proofs.Common.{◌≡◌, ℕ, ◌+◌, ◌*◌, ◌≤◌, cond, drop}
 use Rattle.sheet.specs.Offer.{Offer, width}
 use Rattle.book.specs.Limits.{is_of}
 use Rattle.book.proofs.Adding.{added}

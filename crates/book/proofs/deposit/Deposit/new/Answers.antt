@@ -7,7 +7,7 @@ use Rattle.book.proofs.deposit.Deposit.new.Goals as goal
 
 pub invariant_of-result : goal.invariant_of-result
 invariant_of-result c =
-    let days = day_counts c.args.calendar in (
-      ap (λ places. all_begin (length days) [] places) c.none.ensures.value,
-      (ap (λ places. within days (offers_at (length days) [] places)) c.none.ensures.value ∙ within_none days c.args.calendar.kept, tt),
-    )
+    let days = day_counts c.args.calendar in record {
+      sheets = ap (λ places. all_begin (length days) [] places) c.none.ensures.value;
+      kept = ap (λ places. within days (offers_at (length days) [] places)) c.none.ensures.value ∙ within_none days c.args.calendar.kept;
+    }

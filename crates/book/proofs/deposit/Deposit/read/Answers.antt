@@ -16,15 +16,15 @@ returns-in_err-starts c =
       days = refl;
     })
 
-pub invariant-of-self : goal.invariant-of-self
-invariant-of-self c =
+pub invariant_of-self : goal.invariant_of-self
+invariant_of-self c =
     let days = day_counts c.args.self.now.calendar in
     let month : c.periods-periods.result ≡ length days = c.periods-periods.ensures.value in
     let text = c.args.text.now in
-    let places = places_of c.in_ok-starts.starts in (
-      ap (λ n. all_begin n text places) (sym month) ∙ c.in_ok-starts.ensures.sheets,
-      (within_deposited days c.args.lines_before text (offers_at (length days) text places) c.args.self.now.calendar.kept (subst (λ n. deposited n c.args.lines_before text ≡ Ok (offers_at n text places)) month (sym c.in_ok-starts.ensures.value)), tt),
-    )
+    let places = places_of c.in_ok-starts.starts in record {
+      sheets = ap (λ n. all_begin n text places) (sym month) ∙ c.in_ok-starts.ensures.sheets;
+      kept = within_deposited days c.args.lines_before text (offers_at (length days) text places) c.args.self.now.calendar.kept (subst (λ n. deposited n c.args.lines_before text ≡ Ok (offers_at n text places)) month (sym c.in_ok-starts.ensures.value));
+    }
 
 pub returns : goal.returns
 returns c =

@@ -10,13 +10,13 @@ returns-in_err-start c =
     let self = c.args.self.now in
     rw c.from_residual.ensures (front_none (length (days_of self)) self.text.now (places_of self.starts) c.args.sheet c.in_err-start.ensures)
 
-pub slice-bounds-result-count : goal.slice-bounds-result-count
-slice-bounds-result-count c =
+pub slice_bounds-result-count : goal.slice_bounds-result-count
+slice_bounds-result-count c =
     let self = c.args.self.now in
     front_inside (length (days_of self)) self.text.now (places_of self.starts) c.args.sheet c.in_ok-start.start self.sheets c.in_ok-start.ensures
 
-pub slice-bounds-result-start : goal.slice-bounds-result-start
-slice-bounds-result-start c =
+pub slice_bounds-result-start : goal.slice_bounds-result-start
+slice_bounds-result-start c =
     let self = c.args.self.now in
     front_inside (length (days_of self)) self.text.now (places_of self.starts) c.args.sheet c.in_ok-start.start self.sheets c.in_ok-start.ensures
 

@@ -1,5 +1,4 @@
-use Rattle.std.proofs.Common.{◌≡◌, length, sym, refl, ap, ◌∙◌, subst, rules}
-use Rattle.calendar.specs.Month.{day_counts}
+use Rattle.std.proofs.Common.{refl, ap, ◌∙◌, rules}
 use Rattle.sheet.specs.Facts.{facts}
 use Rattle.sheet.specs.Sheet.{read_alone}
 use Rattle.book.specs.Register.{days_of, periods_of, roll_of}
@@ -13,21 +12,21 @@ use Rattle.book.proofs.register.Register.amend.Goals as goal
 pub amend-requires : goal.amend-requires
 amend-requires c =
     let self = c.args.self.now in
-    record { month = c.month_periods.ensures.few; once = (within_limits (days_of self) (offers_of self.table) self.kept).apart }
+    record { month = c.month-periods.ensures.few; once = (within_limits (days_of self) (offers_of self.table) self.kept).apart }
 
-pub invariant-of-self : goal.invariant-of-self
-invariant-of-self c =
+pub invariant_of-self : goal.invariant_of-self
+invariant_of-self c =
     let self = c.args.self.now in
     let o = facts c.in_ok-offer.offer in
     let T = periods_of self in
     let sheet = from_sheet (read_alone T c.args.text.now) o c.in_ok-offer.ensures in
-    (self.whole, (keeps_amendment (days_of self) (offers_of self.table) self.kept c.args.text.now o sheet c.amend.result (offers_of c.amend.new.self) (c.amend.ensures.value ∙ ap (λ t. amendable t (offers_of self.table) o) c.month_periods.ensures.value) c.amend.ensures.after, tt))
+    record { whole = self.whole; kept = keeps_amendment (days_of self) (offers_of self.table) self.kept c.args.text.now o sheet c.amend.result (offers_of c.amend.new.self) (c.amend.ensures.value ∙ ap (λ t. amendable t (offers_of self.table) o) c.month-periods.ensures.value) c.amend.ensures.after }
 
 pub returns : goal.returns
 returns c =
     let self = c.args.self.now in
     let o = facts c.in_ok-offer.offer in
-    let judged = c.amend.ensures.value ∙ ap (λ t. amendable t (offers_of self.table) o) c.month_periods.ensures.value in
+    let judged = c.amend.ensures.value ∙ ap (λ t. amendable t (offers_of self.table) o) c.month-periods.ensures.value in
     record {
       step = amend_judged (periods_of self) (roll_of self) c.args.text.now o c.in_ok-offer.ensures c.amend.result (offers_of c.amend.new.self) judged c.amend.ensures.after;
       days = refl;

@@ -1,5 +1,4 @@
-use Rattle.std.proofs.Common.{◌≡◌, length, sym, refl, ap, ◌∙◌, subst, rules}
-use Rattle.calendar.specs.Month.{day_counts}
+use Rattle.std.proofs.Common.{refl, ap, ◌∙◌, rules}
 use Rattle.sheet.specs.Facts.{facts}
 use Rattle.sheet.specs.Sheet.{read_alone}
 use Rattle.book.specs.Register.{days_of, periods_of, roll_of}
@@ -9,19 +8,19 @@ use Rattle.book.proofs.Keeps.{keeps_entry}
 use Rattle.book.proofs.Steps.{enter_broken, enter_judged, from_sheet}
 use Rattle.book.proofs.register.Register.enter.Goals as goal
 
-pub invariant-of-self : goal.invariant-of-self
-invariant-of-self c =
+pub invariant_of-self : goal.invariant_of-self
+invariant_of-self c =
     let self = c.args.self.now in
     let o = facts c.in_ok-offer.offer in
     let T = periods_of self in
     let sheet = from_sheet (read_alone T c.args.text.now) o c.in_ok-offer.ensures in
-    (self.whole, (keeps_entry (days_of self) (offers_of self.table) self.kept c.args.text.now o sheet c.enter.result (offers_of c.enter.new.self) (c.enter.ensures.value ∙ ap (λ t. admitted t (offers_of self.table) o) c.month_periods.ensures.value) c.enter.ensures.after, tt))
+    record { whole = self.whole; kept = keeps_entry (days_of self) (offers_of self.table) self.kept c.args.text.now o sheet c.enter.result (offers_of c.enter.new.self) (c.enter.ensures.value ∙ ap (λ t. admitted t (offers_of self.table) o) c.month-periods.ensures.value) c.enter.ensures.after }
 
 pub returns : goal.returns
 returns c =
     let self = c.args.self.now in
     let o = facts c.in_ok-offer.offer in
-    let judged = c.enter.ensures.value ∙ ap (λ t. admitted t (offers_of self.table) o) c.month_periods.ensures.value in
+    let judged = c.enter.ensures.value ∙ ap (λ t. admitted t (offers_of self.table) o) c.month-periods.ensures.value in
     record {
       step = enter_judged (periods_of self) (roll_of self) c.args.text.now o c.in_ok-offer.ensures c.enter.result (offers_of c.enter.new.self) judged c.enter.ensures.after;
       days = refl;

@@ -1,4 +1,4 @@
-use Rattle.std.proofs.Common.{refl, arith, rules}
+use Rattle.std.proofs.Common.{refl, rules}
 use Rattle.book.specs.Register.{periods_of}
 use Rattle.book.specs.Table.{offers_of}
 use Rattle.book.proofs.Steps.{need_set}

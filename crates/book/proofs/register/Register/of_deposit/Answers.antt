@@ -1,7 +1,5 @@
-use Rattle.std.proofs.Common.{◌≡◌, ℕ, List, [], length, take, replicate, sym, refl, ap, ◌∙◌}
+use Rattle.std.proofs.Common.{[], length, sym, refl, ◌∙◌}
 use Rattle.calendar.specs.Month.{day_counts}
-use Rattle.sheet.specs.Offer.{Offer}
-use Rattle.book.specs.Deposit.{entering, deposited}
 use Rattle.book.specs.Needs.{no_need}
 use Rattle.book.specs.Table.{offers_of}
 use Rattle.book.specs.Within.{within_limits}
@@ -19,7 +17,7 @@ pub invariant_of-result : goal.invariant_of-result
 invariant_of-result c =
     let calendar = c.args.calendar in
     let all = c.in-Ok-enter_all.ensures ∙ entering_from c.periods.result (length (day_counts calendar)) c.from.result c.args.lines_before (offers_of c.in-Ok.table) c.args.text.now c.periods.ensures.value c.from.ensures c.in-Ok.ensures in
-    (refl, (within_deposited (day_counts calendar) c.args.lines_before c.args.text.now (offers_of c.enter_all.new.self) calendar.kept (sym all), tt))
+    record { whole = refl; kept = within_deposited (day_counts calendar) c.args.lines_before c.args.text.now (offers_of c.enter_all.new.self) calendar.kept (sym all) }
 
 pub returns-in-Ok-enter_all : goal.returns-in-Ok-enter_all
 returns-in-Ok-enter_all c =

@@ -1,4 +1,4 @@
-use Rattle.std.proofs.Common.{◌≡◌, [], length, take, replicate, sym, refl, ap, ◌∙◌, arith}
+use Rattle.std.proofs.Common.{[], length, take, replicate, refl, ap, ◌∙◌}
 use Rattle.calendar.specs.Month.{day_counts}
 use Rattle.book.specs.Needs.{no_need}
 use Rattle.book.specs.Within.{within, within_limits}
@@ -10,7 +10,7 @@ use Rattle.book.proofs.register.Register.open.Goals as goal
 pub invariant_of-result : goal.invariant_of-result
 invariant_of-result c =
     let calendar = c.args.calendar in
-    (refl, (ap (within (day_counts calendar)) c.in_ok-table.ensures ∙ within_none (day_counts calendar) calendar.kept, tt))
+    record { whole = refl; kept = ap (within (day_counts calendar)) c.in_ok-table.ensures ∙ within_none (day_counts calendar) calendar.kept }
 
 pub returns : goal.returns
 returns c =

@@ -1,10 +1,8 @@
-use Rattle.std.proofs.Common.{◌≡◌, ℕ, List, length, Result, sym, refl, ap, ◌∙◌, subst}
-use Rattle.book.specs.Calls.{saved_length, saved_buffer}
-use Rattle.book.specs.Register.{periods_of, roll_of, save_answer_of}
+use Rattle.std.proofs.Common.{refl, ◌∙◌}
+use Rattle.book.specs.Register.{periods_of, roll_of}
 use Rattle.book.specs.Roll.{standing}
-use Rattle.book.specs.Step.{BufferAfter}
 use Rattle.book.specs.Table.{offers_of}
-use Rattle.book.proofs.Saving.{save_answered, save_leaves, answer_by}
+use Rattle.book.proofs.Saving.{save_answered, answer_by}
 use Rattle.book.proofs.register.Register.save.Goals as goal
 
 pub returns : goal.returns

@@ -1,4 +1,4 @@
-use Rattle.std.proofs.Common.{◌≡◌, sym, refl, ap, ◌∙◌, rules}
+use Rattle.std.proofs.Common.{sym, refl, ◌∙◌, rules}
 use Rattle.sheet.specs.Facts.{facts}
 use Rattle.book.specs.Table.{offers_of}
 use Rattle.book.proofs.Allowed.{amended_nowhere, amended_somewhere}

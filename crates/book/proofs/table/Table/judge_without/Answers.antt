@@ -1,4 +1,4 @@
-use Rattle.std.proofs.Common.{sym, ap, ◌∙◌}
+use Rattle.std.proofs.Common.{ap, ◌∙◌}
 use Rattle.sheet.specs.Facts.{facts}
 use Rattle.book.specs.Roll.{beside}
 use Rattle.book.specs.Table.{offers_of}

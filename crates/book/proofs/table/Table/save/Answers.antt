@@ -1,4 +1,4 @@
-use Rattle.std.proofs.Common.{length, sym, refl, ap, ◌∙◌, arith}
+use Rattle.std.proofs.Common.{length, sym, ap, ◌∙◌, arith}
 use Rattle.book.specs.Calls.{saved_length, saved_buffer}
 use Rattle.book.specs.Table.{offers_of}
 use Rattle.book.proofs.Placed.{unplaced}

@@ -1,4 +1,4 @@
-use Rattle.std.proofs.Common.{◌≡◌, sym, refl, ap, ◌∙◌}
+use Rattle.std.proofs.Common.{sym, refl, ◌∙◌}
 use Rattle.book.specs.Table.{offers_of}
 use Rattle.book.proofs.Allowed.{withdrawn_nowhere, withdrawn_somewhere}
 use Rattle.book.proofs.Placed.{others_placed}
