@@ -1,5 +1,5 @@
 -- Choices of blocks: what the choice of none leaves, and how many blocks a choice takes. Assumes nothing.
-use Rattle.std.proofs.Common.{◌≡◌, ℕ, zero, suc, ◌+◌, ◌*◌, ◌/◌, ◌%◌, ◌^◌, ◌<◌, Bool, true, false, cond, ◌&&◌, eqb, List, [], ◌∷◌, sym, refl, ap, ◌∙◌, subst, add-zero, pow-suc, zero-add, div-one, add-one, one-add, arith, eqb-true}
+use Rattle.std.proofs.Common.{◌≡◌, ℕ, ◌+◌, ◌/◌, ◌%◌, ◌^◌, ◌<◌, Bool, true, false, cond, ◌&&◌, eqb, List, [], ◌∷◌, sym, refl, ap, ◌∙◌, subst, add-zero, pow-suc, zero-add, div-one, add-one, one-add, arith, eqb-true}
 use native.Mathlib.Nat.{zero-div, div-div-eq-div-mul}
 use native.Mathlib.Numerals.{unary_clauses}
 use lib.Count.{ones, ones_step}
@@ -12,7 +12,7 @@ use Rattle.book.specs.declared.need.Need.{Need}
 use Rattle.book.specs.Taken.{choices, holds, withheld, takes_from, taken_from}
 use Rattle.clearing.specs.Words.{each}
 use Rattle.clearing.specs.Period.{volume}
-use Rattle.clearing.specs.Month.{cover_of, taken_mw, still}
+use Rattle.clearing.specs.Month.{cover_of, still}
 use Rattle.clearing.specs.Laws.{NoneTaken, OnesTaken}
 
 -- ---- no block

@@ -1,5 +1,5 @@
 -- Tests that compute what the definitions of a period's award ask, and what a passed or failed test tells. Assumes nothing.
-use Rattle.std.proofs.Common.{◌≡◌, ℕ, zero, suc, ◌+◌, Bool, true, false, cond, ◌&&◌, ◌||◌, T, eqb, ltb, leb, ◌⊎◌, List, [], ◌∷◌, ℤ, pos, negsuc, ◌≤ℤ◌, Ordering, Less, Equal, Greater, sym, refl, ap, subst, inl, inr, arith, eqb→eq, ltb→lt, leb→le, ltb-false, ltb-true, eqb-true}
+use Rattle.std.proofs.Common.{◌≡◌, ℕ, zero, suc, ◌+◌, Bool, true, false, cond, ◌&&◌, ◌||◌, T, eqb, ltb, leb, List, [], ◌∷◌, ℤ, pos, negsuc, ◌≤ℤ◌, Ordering, Less, Equal, Greater, sym, refl, ap, subst, inl, inr, arith, eqb→eq, ltb→lt, leb→le, ltb-false, ltb-true, eqb-true}
 use lib.Signed.{le_z}
 use lib.Dec.{eqb_refl}
 use borrow.Author.Tests.{eqb-false}

@@ -1,5 +1,5 @@
 -- The order of lists of powers: cheaper first, then ahead; for every rule. Assumes nothing.
-use Rattle.std.proofs.Common.{◌≡◌, ℕ, suc, ◌<◌, ◌⊎◌, List, [], ◌∷◌, length, sym, ◌∙◌, subst, inl, inr, arith}
+use Rattle.std.proofs.Common.{◌≡◌, ℕ, ◌⊎◌, List, [], ◌∷◌, length, sym, ◌∙◌, subst, inl, inr, arith}
 use Rattle.std.proofs.lemmas.Bool.{cases_order}
 use Rattle.cost.specs.Rule.{Rule}
 use Rattle.cost.proofs.Order.{not_same, not_both, same_from, strict_back}

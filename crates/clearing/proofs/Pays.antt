@@ -1,5 +1,5 @@
 -- What an accepted MW and a taken block are paid is at least their price, and nothing is cut off. Assumes nothing.
-use Rattle.std.proofs.Common.{◌≡◌, ℕ, zero, suc, ◌+◌, ◌-◌, ◌<◌, ◌≤◌, Bool, true, false, cond, ◌⊎◌, List, [], ◌∷◌, ◌++◌, map, take, ℤ, pos, negsuc, ◌≤ℤ◌, ◌<ℤ◌, refl, ap, inl, inr, arith, ne_eqb}
+use Rattle.std.proofs.Common.{◌≡◌, ℕ, zero, suc, ◌+◌, ◌<◌, ◌≤◌, Bool, false, cond, List, [], ◌∷◌, ◌++◌, map, take, ℤ, pos, negsuc, ◌≤ℤ◌, ◌<ℤ◌, refl, ap, arith, ne_eqb}
 use mathlib.Core.Logic.{by_cases}
 use native.Mathlib.Decide.{dec_le}
 use lib.Signed.{lt_z}

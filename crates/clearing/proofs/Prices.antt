@@ -1,5 +1,5 @@
 -- A product's price is 0 or the criterion of one of its accepted MW. Assumes nothing.
-use Rattle.std.proofs.Common.{◌≡◌, ℕ, zero, suc, ◌+◌, ◌<◌, cond, ◌⊎◌, List, [], ◌∷◌, ◌++◌, length, take, ℤ, pos, refl, inl, inr, arith}
+use Rattle.std.proofs.Common.{◌≡◌, ℕ, zero, suc, ◌<◌, cond, ◌⊎◌, List, [], ◌∷◌, ◌++◌, take, ℤ, pos, refl, inl, inr, arith}
 use Rattle.std.specs.List.{ContainsAt as Has}
 use Rattle.sheet.specs.Offer.{Offer}
 use Rattle.sheet.specs.declared.product.Product.{Product}
@@ -8,7 +8,7 @@ use Rattle.book.specs.Limits.{is_of}
 use Rattle.cost.specs.Rule.{Rule}
 use Rattle.clearing.specs.Words.{SomePartner}
 use Rattle.clearing.specs.Criterion.{megawatts}
-use Rattle.clearing.specs.Period.{Award, price, Cover, Marginal, accepted, Admitted}
+use Rattle.clearing.specs.Period.{Marginal, accepted}
 use Rattle.clearing.specs.Laws.{PriceReached}
 
 has_none : {X : Type 0} (x : X) → Has [] x → ⊥

@@ -1,10 +1,9 @@
 -- At fixed prices and volumes the two products are independent: the first whole is the first halves side by side. Assumes nothing.
-use Rattle.std.proofs.Common.{◌≡◌, ℕ, ◌<◌, Bool, true, false, cond, ◌⊎◌, List, [], ◌∷◌, ◌++◌, take, sym, refl, ap, ◌∙◌, subst, inl, inr, arith}
+use Rattle.std.proofs.Common.{◌≡◌, ℕ, Bool, true, false, cond, List, [], ◌∷◌, ◌++◌, take, sym, refl, ap, ◌∙◌, subst, inl, inr, arith}
 use Rattle.sheet.specs.Offer.{Offer, total}
 use Rattle.sheet.specs.declared.product.Product.{Product}
 use Rattle.sheet.specs.declared.product.Product.TheVariants.{Rapid, Complementary}
 use Rattle.book.specs.Limits.{is_of}
-use Rattle.cost.specs.Rule.{Rule}
 use Rattle.clearing.specs.Words.{Partners}
 use Rattle.clearing.specs.Criterion.{megawatts}
 use Rattle.clearing.specs.Period.{of_product, Marginal, part, volume, accepted, LawfulPower, Whole}

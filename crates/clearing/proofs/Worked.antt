@@ -1,5 +1,5 @@
 -- The small tenders are as the table says: one test over all of them. Assumes nothing.
-use Rattle.std.proofs.Common.{◌≡◌, ℕ, ◌+◌, Bool, true, false, cond, not, ◌&&◌, ◌||◌, T, ltb, ◌⊎◌, List, [], ◌∷◌, ◌++◌, map, pos, ◌≤ℤ◌, Some, None, Option, Ordering, Less, Equal, Greater, sym, refl, subst, inl, inr, arith, ltb→lt, T_not}
+use Rattle.std.proofs.Common.{◌≡◌, ℕ, ◌+◌, Bool, true, false, cond, not, ◌&&◌, ◌||◌, T, ltb, List, [], ◌∷◌, ◌++◌, map, pos, Some, None, Option, Ordering, Less, Equal, Greater, sym, refl, subst, inl, inr, arith, ltb→lt, T_not}
 use lib.Signed.{le_z}
 use Rattle.std.specs.List.{AllByRecursion}
 use Rattle.calendar.specs.Opening.{opened}

@@ -1,8 +1,7 @@
 -- A line of few numbers, as its reader answers.
-use Rattle.std.proofs.Common.{◌≡◌, ℕ, ◌≤◌, cond, List, Some, None, Ok, Err, Option, sym, refl, ap, ◌∙◌}
+use Rattle.std.proofs.Common.{◌≡◌, ℕ, ◌≤◌, List, Option, refl, ap, ◌∙◌}
 use Rattle.std.specs.Option.{ok_or}
 use Rattle.std.proofs.lemmas.Bool.{le-leb}
-use Rattle.text.specs.Form.{whole, line_of}
 use Rattle.text.specs.Lines.{number_line}
 use Rattle.tender_text.specs.Opening.{numbers}
 use Rattle.tender_text.specs.declared.fault.TenderFault.TheVariants.{Form}

@@ -1,6 +1,6 @@
 -- A tender whose parts were all read.
-use Rattle.std.proofs.Common.{◌≡◌, ℕ, cond, List, ◌++◌, length, Ok, Err, Result, sym, refl, ap, ◌∙◌, arith}
-use Rattle.text.specs.Judging.{◌>>=◌, ◌>>◌}
+use Rattle.std.proofs.Common.{◌≡◌, ℕ, List, ◌++◌, length, Ok, Err, Result, sym, refl, ap, ◌∙◌, arith}
+use Rattle.text.specs.Judging.{◌>>=◌}
 use Rattle.sheet.specs.Offer.{Offer}
 use Rattle.book.specs.Deposit.{deposited}
 use Rattle.tender_text.specs.Answer.{after_needs}

@@ -1,9 +1,7 @@
 -- The refusals of a tender's text: the number and the place of each. Assumes nothing.
 use Rattle.std.specs.Prelude.{ℕ}
 use Rattle.book.specs.Fault as book
-use Rattle.book.specs.declared.fault.RegisterFault.{RegisterFault}
 use Rattle.calendar.specs.Fault as calendar
-use Rattle.calendar.specs.declared.fault.CalendarFault.{CalendarFault}
 use Rattle.tender_text.specs.declared.fault.TenderFault.{TenderFault}
 use Rattle.tender_text.specs.declared.fault.TenderFault.TheVariants.{Form, Calendar, Register, Space}
 

@@ -1,5 +1,5 @@
 -- The first lines of a tender's text, and the calendar that they open. Assumes nothing.
-use Rattle.std.specs.Prelude.{ℕ, List, [], ◌∷◌, Ok, Err, Result, slice_index_or}
+use Rattle.std.specs.Prelude.{ℕ, List, Ok, Err, Result, slice_index_or}
 use Rattle.std.specs.Borrow.{Bor}
 use Rattle.std.specs.Option.{ok_or}
 use Rattle.text.specs.Form.{whole, line_of}
@@ -12,7 +12,7 @@ use Rattle.calendar.specs.declared.fault.CalendarFault.{CalendarFault}
 use Rattle.calendar.specs.declared.fault.CalendarFault.TheVariants.{Date}
 use Rattle.calendar.specs.declared.month.Calendar.{Calendar as Periods}
 use Rattle.tender_text.specs.declared.fault.TenderFault.{TenderFault}
-use Rattle.tender_text.specs.declared.fault.TenderFault.TheVariants.{Form, Calendar, Space}
+use Rattle.tender_text.specs.declared.fault.TenderFault.TheVariants.{Form, Calendar}
 use Rattle.tender_text.specs.declared.opening.FirstLines.{FirstLines}
 
 -- what the first two lines tell, and what follows them

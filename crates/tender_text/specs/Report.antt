@@ -1,6 +1,6 @@
 -- What a tender's text tells, and what is printed for it. Assumes nothing.
 use Rattle.std.specs.Prelude.{ℕ, ◌+◌, cond, List, [], ◌∷◌, ◌++◌, length, Ok, Err, codes, decimal, Result, nat_le}
-use Rattle.text.specs.Judging.{◌>>=◌, ◌>>◌}
+use Rattle.text.specs.Judging.{◌>>=◌}
 use Rattle.text.specs.Written.{line_text}
 use Rattle.sheet.specs.Offer.{Offer, width}
 use Rattle.sheet.specs.declared.product.Product.{Product}

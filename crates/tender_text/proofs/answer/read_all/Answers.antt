@@ -1,4 +1,4 @@
-use Rattle.std.proofs.Common.{◌≡◌, sym, ap, ◌∙◌}
+use Rattle.std.proofs.Common.{ap, ◌∙◌}
 use Rattle.book.specs.Register.{roll_of}
 use Rattle.calendar.specs.Month.{day_counts}
 use Rattle.tender_text.specs.Answer.{after_needs}

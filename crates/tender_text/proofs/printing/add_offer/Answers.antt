@@ -1,4 +1,4 @@
-use Rattle.std.proofs.Common.{[], ◌∷◌, vec_items, string_bytes, decimal, ◌∙◌}
+use Rattle.std.proofs.Common.{[], ◌∷◌, vec_items, decimal, ◌∙◌}
 use Rattle.text.specs.Written.{line_text}
 use Rattle.sheet.specs.Facts.{facts}
 use Rattle.sheet.specs.Offer.{width}

@@ -1,4 +1,4 @@
-use Rattle.std.proofs.Common.{◌≡◌, ◌++◌, string_bytes, sym, ap, ◌∙◌}
+use Rattle.std.proofs.Common.{◌++◌, string_bytes, sym, ap, ◌∙◌}
 use Rattle.tender_text.proofs.Rows.{rows_more, rows_all}
 use Rattle.tender_text.proofs.printing.add_rows.Goals as goal
 

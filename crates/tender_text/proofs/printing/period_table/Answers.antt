@@ -1,5 +1,4 @@
-use Rattle.std.proofs.Common.{◌≡◌, ◌++◌, string_bytes, codes, sym, ap, ◌∙◌}
-use Rattle.calendar.specs.Month.{day_counts}
+use Rattle.std.proofs.Common.{◌++◌, codes, ap, ◌∙◌}
 use Rattle.tender_text.specs.Report.{period_rows}
 use Rattle.tender_text.proofs.printing.period_table.Goals as goal
 
