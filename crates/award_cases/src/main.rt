@@ -46,12 +46,12 @@ mod tests {
         let long = vec![in heap; b'1'; 32_769]?;
         assert_eq!(rt;
             report(heap, long.as_slice())?.as_slice(),
-            b"refused;13;0;\n"
+            b"refused;13;0;\n".as_slice()
         );
         let longest = vec![in heap; b'1'; 32_768]?;
         assert_eq!(rt;
             report(heap, longest.as_slice())?.as_slice(),
-            b"refused;1;1;\n"
+            b"refused;1;1;\n".as_slice()
         );
         Ok(())
     }
