@@ -12,14 +12,14 @@ some_parts {X} {Y} a c b d e =
     (ap (λ (q : X × Y). q.0) p, ap (λ (q : X × Y). q.1) p)
 
 -- what is read with a byte left over
-abbrev pub Goes_on : {X : Type 0} → Reads X → Type 0
-Goes_on {X} reads = (text more : List ℕ) (x : X) (b : ℕ) (rest : List ℕ) → reads text ≡ Some (x, b ∷ rest) → reads (text ++ more) ≡ Some (x, b ∷ (rest ++ more))
+abbrev pub GoesOn : {X : Type 0} → Reads X → Type 0
+GoesOn {X} reads = (text more : List ℕ) (x : X) (b : ℕ) (rest : List ℕ) → reads text ≡ Some (x, b ∷ rest) → reads (text ++ more) ≡ Some (x, b ∷ (rest ++ more))
 
 -- what is read, whatever is left over
 abbrev pub Complete : {X : Type 0} → Reads X → Type 0
 Complete {X} reads = (text more : List ℕ) (x : X) (rest : List ℕ) → reads text ≡ Some (x, rest) → reads (text ++ more) ≡ Some (x, rest ++ more)
 
-goes_on : {X : Type 0} (reads : Reads X) → Complete reads → Goes_on reads
+goes_on : {X : Type 0} (reads : Reads X) → Complete reads → GoesOn reads
 goes_on reads h text more x b rest e = h text more x (b ∷ rest) e
 
 none_some : {X : Type 0} (x : X) → ◌≡◌ {A = Option X} None (Some x) → ⊥
@@ -38,7 +38,7 @@ leading_longer kind (x ∷ text) more h = go (kind x) (leading_longer kind text 
     go true again h = ap (λ n. 1 + n) (again (omega arith))
     go false again h = refl
 
-run_longer : (kind : ℕ → Bool) (least most : ℕ) → Goes_on (run kind least most)
+run_longer : (kind : ℕ → Bool) (least most : ℕ) → GoesOn (run kind least most)
 run_longer kind least most text more x b rest e =
     let n = prefix_len kind text in
     let p = passed (between least most n) (take n text, drop n text) (x, b ∷ rest) e in
@@ -55,7 +55,7 @@ let_through : {X : Type 0} (t : Bool) (x y : X) → cond t None (Some x) ≡ Som
 let_through true x y h = absurd (none_some y h)
 let_through false x y h = (refl, cc)
 
-number_longer : (most : ℕ) → Goes_on (number_up_to most)
+number_longer : (most : ℕ) → GoesOn (number_up_to most)
 number_longer most text more x b rest e =
     let a = some_from (run digit 1 most text) _ (x, b ∷ rest) e in
     let ds = a.0.0 in
@@ -69,14 +69,14 @@ number_longer most text more x b rest e =
 abbrev saying : {X Y : Type 0} → (X → Y) → Reads X → Reads Y
 saying f reads text = reads text >>= (λ p. Some (f p.0, p.1))
 
-saying_longer : {X Y : Type 0} (f : X → Y) (reads : Reads X) → Goes_on reads → Goes_on (saying f reads)
+saying_longer : {X Y : Type 0} (f : X → Y) (reads : Reads X) → GoesOn reads → GoesOn (saying f reads)
 saying_longer f reads h text more y b rest e =
     let a = some_from (reads text) _ (y, b ∷ rest) e in
     let p = some_parts (f a.0.0) y a.0.1 (b ∷ rest) a.2 in
     let again = h text more a.0.0 b rest (a.1 ∙ ap (λ q. Some (a.0.0, q)) p.1) in
     rw (again, p.0) refl
 
-decimals_longer : (euros : ℕ) → Goes_on (decimals euros)
+decimals_longer : (euros : ℕ) → GoesOn (decimals euros)
 decimals_longer euros [] more x b rest e =
     let p = some_parts (euros * 100) x [] (b ∷ rest) e in
     absurd (nil_cons b rest p.1)
@@ -95,7 +95,7 @@ decimals_longer euros (c ∷ text) more x b rest e = go (eqb c 44) e
         let v = p.0 in
         cc
 
-price_longer : Goes_on price
+price_longer : GoesOn price
 price_longer text more x b rest e =
     let a = some_from (number_up_to 7 text) _ (x, b ∷ rest) e in
     go a.0.0 a.0.1 a.1 a.2
@@ -120,7 +120,7 @@ after_longer (b ∷ bs) (x ∷ text) more rest e = go (eqb x b) (after_longer bs
     go false again h = absurd (none_some rest h)
 
 -- a byte that has to end it was there
-ended_longer : {X : Type 0} (byte : ℕ) (reads : Reads X) → Goes_on reads → Complete (ended byte reads)
+ended_longer : {X : Type 0} (byte : ℕ) (reads : Reads X) → GoesOn reads → Complete (ended byte reads)
 ended_longer {X} byte reads h text more x rest e =
     let a = some_from (reads text) _ (x, rest) e in
     let c = some_from (after (byte ∷ []) a.0.1) _ (x, rest) a.2 in
@@ -134,7 +134,7 @@ ended_longer {X} byte reads h text more x rest e =
         let end = after_longer (byte ∷ []) (b ∷ r) more rest l in
         rw again (ap (λ o. o >>= (λ s. Some (x, s))) end)
 
-fields_longer : {X : Type 0} (reads : Reads X) → Goes_on reads → (n : ℕ) → Complete (fields reads n)
+fields_longer : {X : Type 0} (reads : Reads X) → GoesOn reads → (n : ℕ) → Complete (fields reads n)
 fields_longer reads h zero text more xs rest e =
     let p = some_parts [] xs text rest e in
     let q = p.0 in
@@ -148,7 +148,7 @@ fields_longer reads h (suc n) text more xs rest e =
     let others = fields_longer reads h n a.0.1 more c.0.0 c.0.1 c.1 in
     rw (first, others, p.0, p.1) refl
 
-pub line_of_longer : {X : Type 0} (reads : Reads X) → Goes_on reads → (n : ℕ) → Complete (line_of reads n)
+pub line_of_longer : {X : Type 0} (reads : Reads X) → GoesOn reads → (n : ℕ) → Complete (line_of reads n)
 line_of_longer reads h n = ended_longer 10 (fields reads n) (goes_on (fields reads n) (fields_longer reads h n))
 
 pub numbers_longer : (n : ℕ) → Complete (line_of whole n)
@@ -157,7 +157,7 @@ numbers_longer n = line_of_longer whole (number_longer 10) n
 pub prices_longer : (n : ℕ) → Complete (line_of price n)
 prices_longer n = line_of_longer price price_longer n
 
-one_longer : {X : Type 0} (reads : Reads X) → Goes_on reads → Complete (ended 10 (field reads))
+one_longer : {X : Type 0} (reads : Reads X) → GoesOn reads → Complete (ended 10 (field reads))
 one_longer reads h = ended_longer 10 (field reads) (goes_on (field reads) (ended_longer 59 reads h))
 
 pub price_line_longer : Complete (ended 10 (field price))
