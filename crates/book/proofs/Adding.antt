@@ -26,6 +26,6 @@ total_split f (x ∷ xs) ys = let rest = total_split f xs ys in omega arith
 
 -- an offer with those before it and those after it
 pub added_with : (f : Offer → ℕ) (o : Offer) (before after : List Kept) (own front back : ℕ) → own ≡ f o → front ≡ added f before → back ≡ added f after → own + (front + back) ≡ total (map f (o ∷ (map facts before ++ map facts after)))
-added_with f o before after own front back own_is front-is back_is =
+added_with f o before after own front back own_is front_is back_is =
     let split = total_split f (map facts before) (map facts after) in
     omega arith

@@ -13,5 +13,5 @@ entering_more T (suc turns) before offers (b ∷ text) o rest some left sheet en
     rw (← sheet, ← enters, next) refl
 
 pub entering_from : (T' T before' before : ℕ) (offers : List Offer) (text : List ℕ) → T' ≡ T → before' ≡ before → offers ≡ [] → entering T' 33 before' offers text ≡ deposited T before text
-entering_from T' T before' before offers text same-month same_lines none =
-    ap (λ n. entering n 33 before' offers text) same-month ∙ ap (λ n. entering T 33 n offers text) same_lines ∙ ap (λ os. entering T 33 before os text) none
+entering_from T' T before' before offers text same_month same_lines none =
+    ap (λ n. entering n 33 before' offers text) same_month ∙ ap (λ n. entering T 33 n offers text) same_lines ∙ ap (λ os. entering T 33 before os text) none

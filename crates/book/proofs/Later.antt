@@ -33,7 +33,7 @@ module _ (n : ℕ) (more : List ℕ) where
   -- ---- a line
 
   line_later : {X Y : Type 0} (reads : Reads X) (fits : X → Bool) (says : X → Y) → Complete reads → LaterLine (line reads fits says)
-  line_later {X} {Y} reads fits says whole-line l text = go (reads text) refl
+  line_later {X} {Y} reads fits says whole_line l text = go (reads text) refl
     where
       judged : Option (X × List ℕ) → ℕ → Result (Y × List ℕ) SheetFault
       judged r l = ok_or r (Form l) >>= (λ s. must (fits s.0) (Value l) >> Ok (says s.0, s.1))
@@ -44,7 +44,7 @@ module _ (n : ℕ) (more : List ℕ) where
 
       go : (r : Option (X × List ℕ)) → reads text ≡ r → Later (judged r l) (judged (reads (text ++ more)) (n + l))
       go None e = λ none. ap (λ o. judged o (n + l)) (ap (λ m. reads (text ++ m)) none ∙ ap reads (append-nil text) ∙ e)
-      go (Some s) e = subst (λ o. Later (judged (Some s) l) (judged o (n + l))) (sym (whole-line text more s.0 s.1 e)) (tested (fits s.0) (says s.0) s.1)
+      go (Some s) e = subst (λ o. Later (judged (Some s) l) (judged o (n + l))) (sym (whole_line text more s.0 s.1 e)) (tested (fits s.0) (says s.0) s.1)
 
   agreeing_later : {X : Type 0} (fault : ℕ → SheetFault) (agree : X → Bool) (reads : Line X) → ((l : ℕ) → sheet_later n (fault l) ≡ fault (n + l)) → LaterLine reads → LaterLine (agreeing fault agree reads)
   agreeing_later {X} fault agree reads moves h l text =

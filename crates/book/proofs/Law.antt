@@ -204,14 +204,14 @@ module _ (days : List ℕ) where
       where
         at : (t : ℕ) → InMonth days t → (b : Bool) → eqb u t ≡ b → need_of (set roll.needs (u - 1) wanted) t ≡ unwrap_or (last_need t (past ++ (need_set u wanted ∷ []))) no_need
         at t h true e =
-            let same-t = eqb-true u t e in
+            let same_t = eqb-true u t e in
             let l : u - 1 < length roll.needs = omega (arith, k.whole) in
-            ap (λ i. get_or (set roll.needs (u - 1) wanted) (i - 1) no_need) (sym same-t)
+            ap (λ i. get_or (set roll.needs (u - 1) wanted) (i - 1) no_need) (sym same_t)
             ∙ get_or-set_same roll.needs (u - 1) wanted no_need l
             ∙ sym (ap (λ o. unwrap_or o no_need) (last_need_push t past (need_set u wanted) ∙ ap (λ (b : Bool). option_or (cond b (Some wanted) None) (last_need t past)) e))
         at t h false e =
-            let other-t = eqb-false u t e in
-            get_or-set_other roll.needs (u - 1) (t - 1) wanted no_need (λ s. other-t (omega arith))
+            let other_t = eqb-false u t e in
+            get_or-set_other roll.needs (u - 1) (t - 1) wanted no_need (λ s. other_t (omega arith))
             ∙ k.needed_last t h
             ∙ sym (ap (λ o. unwrap_or o no_need) (last_need_push t past (need_set u wanted) ∙ ap (λ (b : Bool). option_or (cond b (Some wanted) None) (last_need t past)) e))
 

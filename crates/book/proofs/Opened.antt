@@ -11,6 +11,6 @@ take_replicate x (suc k) (suc n) few = ap (λ xs. x ∷ xs) (take_replicate x k 
 
 -- rolls with the same offers and the same needs are the same
 pub same_roll : (offers offers' : List Offer) (needs needs' : List Need) → offers ≡ offers' → needs ≡ needs' → ◌≡◌ {A = Roll} (record { offers = offers; needs = needs }) (record { offers = offers'; needs = needs' })
-same_roll offers offers' needs needs' same-offers same_needs =
-    ap (λ (os : List Offer). record { offers = os; needs = needs }) same-offers
+same_roll offers offers' needs needs' same_offers same_needs =
+    ap (λ (os : List Offer). record { offers = os; needs = needs }) same_offers
     ∙ ap (λ (ns : List Need). record { offers = offers'; needs = ns }) same_needs

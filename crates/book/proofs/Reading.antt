@@ -117,13 +117,13 @@ pub record SoFar (T first : ℕ) (text : List ℕ) (starts : Starts) (before : �
   pub near : before ≤ 255 + 21 * starts.count
 
 pub so_far_none : (T first : ℕ) (text : List ℕ) (starts : Starts) (before : ℕ) (offers : List Offer) → before ≡ first → first ≤ 255 → offers ≡ [] → places_of starts ≡ [] → starts.count ≡ 0 → length starts.places ≡ 32 → SoFar T first text starts before offers text
-so_far_none T first text starts before offers same low none empty zero-count room = record {
-  judged = ap (λ n. entering T (33 - n) before offers text) zero-count ∙ ap (λ os. entering T 33 before os text) none ∙ ap (λ n. entering T 33 n [] text) same;
+so_far_none T first text starts before offers same low none empty zero_count room = record {
+  judged = ap (λ n. entering T (33 - n) before offers text) zero_count ∙ ap (λ os. entering T 33 before os text) none ∙ ap (λ n. entering T 33 n [] text) same;
   told = ap (offers_at T text) empty ∙ sym none;
   sheets = ap (all_begin T text) empty;
   tail = whole_tail text;
   few = omega arith;
-  long = ap length none ∙ sym zero-count;
+  long = ap length none ∙ sym zero_count;
   room = room;
   near = omega arith;
 }

@@ -67,8 +67,8 @@ module _ (T : ℕ) (roll : Roll) (name : List ℕ) (number : ℕ) (before : List
 
 -- the answer and the buffer of a save, by what it found
 pub answer_by : (before after : List ℕ) (found : Option Offer) (r : Result ℕ RegisterFault) → r ≡ saved_length (length before) found → after ≡ saved_buffer before found → (save_answer_of after r ≡ save_answer_of (saved_buffer before found) (saved_length (length before) found)) × BufferAfter (save_answer_of after r) before after
-answer_by before after found r r-is after_is =
-    let same : save_answer_of after r ≡ save_answer_of (saved_buffer before found) (saved_length (length before) found) = ap (λ b. save_answer_of b r) after_is ∙ ap (save_answer_of (saved_buffer before found)) r-is in (
+answer_by before after found r r_is after_is =
+    let same : save_answer_of after r ≡ save_answer_of (saved_buffer before found) (saved_length (length before) found) = ap (λ b. save_answer_of b r) after_is ∙ ap (save_answer_of (saved_buffer before found)) r_is in (
       same,
       subst (λ a. BufferAfter a before after) (sym same) (subst (BufferAfter (save_answer_of (saved_buffer before found) (saved_length (length before) found)) before) (sym after_is) (save_leaves 0 (record { offers = []; needs = [] }) [] 0 before found)),
     )

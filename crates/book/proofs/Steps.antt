@@ -70,6 +70,6 @@ set_within (suc n) (y ∷ ys) zero x = refl
 set_within (suc n) (y ∷ ys) (suc i) x = ap (λ rest. y ∷ rest) (set_within n ys i x)
 
 pub need_set : (T : ℕ) (offers : List Offer) (needs : List Need) (t rr rc : ℕ) → 1 ≤ t → t ≤ T → rr ≤ 1000 → rc ≤ 1000 → Step T (record { offers = offers; needs = take T needs }) (need t rr rc) accepted (record { offers = offers; needs = take T (set needs (t - 1) (record { rapid = rr; complementary = rc })) })
-need_set T offers needs t rr rc low high rr-low rc-low =
-    rw (le-leb 1 t low, le-leb t T high, le-leb rr 1000 rr-low, le-leb rc 1000 rc-low)
+need_set T offers needs t rr rc low high rr_low rc_low =
+    rw (le-leb 1 t low, le-leb t T high, le-leb rr 1000 rr_low, le-leb rc 1000 rc_low)
     (refl, ap (λ (ns : List Need). record { offers = offers; needs = ns }) (set_within T needs (t - 1) (record { rapid = rr; complementary = rc })))

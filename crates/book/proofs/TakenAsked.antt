@@ -48,7 +48,7 @@ module _ (choice : ℕ) (offers : List Offer) (i : ℕ) where
       go (Some o) = refl
 
   pub taken_with : (blocks : ℕ) → is_some (block_asked offers i) ≡ true → blocks ≡ before → holds choice blocks ≡ get_or (takes choice offers) i false
-  taken_with blocks some blocks-are = sym (told ∙ ap (λ b. b && holds choice before) some ∙ ap (holds choice) (sym blocks-are))
+  taken_with blocks some blocks_are = sym (told ∙ ap (λ b. b && holds choice before) some ∙ ap (holds choice) (sym blocks_are))
 
   pub taken_without : is_some (block_asked offers i) ≡ false → false ≡ get_or (takes choice offers) i false
   taken_without none = sym (told ∙ ap (λ b. b && holds choice before) none)

@@ -23,7 +23,7 @@ most_blocks = 6
 
 -- an offer is known by name and number
 abbrev pub same : (name : List ℕ) (number : ℕ) → List ℕ → ℕ → Bool
-same name number other_name other-number = bytes_eq other_name name && other-number == number
+same name number other_name other_number = bytes_eq other_name name && other_number == number
 
 abbrev pub is : (name : List ℕ) (number : ℕ) → Offer → Bool
 is name number o = same name number o.name o.number

@@ -8,11 +8,11 @@ use Rattle.calendar.specs.declared.fault.CalendarFault.TheVariants.{Date, Weeks}
 module _ (year month : ℕ) (holidays : List ℕ) where
   pub unannounced : announced year month (length holidays) ≡ false → opened year month holidays ≡ Err Date
   unfolding opened
-  unannounced no-month = rw (and_left (announced year month (length holidays)) (rising 0 (month_length year month) holidays) no-month) refl
+  unannounced no_month = rw (and_left (announced year month (length holidays)) (rising 0 (month_length year month) holidays) no_month) refl
 
   pub unrisen : rising 0 (month_length year month) holidays ≡ false → opened year month holidays ≡ Err Date
   unfolding opened
-  unrisen no-days = rw (and_right (announced year month (length holidays)) (rising 0 (month_length year month) holidays) no-days) refl
+  unrisen no_days = rw (and_right (announced year month (length holidays)) (rising 0 (month_length year month) holidays) no_days) refl
 
   pub dated_opens : announced year month (length holidays) ≡ true → rising 0 (month_length year month) holidays ≡ true → length (month_periods year month holidays) ≤ 11 → opened year month holidays ≡ Ok (month_periods year month holidays)
   unfolding opened

@@ -57,16 +57,16 @@ module _ (days : List ℕ) (count : ℕ) (parts : List ℕ) (i : ℕ) (room : le
 
   -- the arrays after a turn that found days, and after one that found none
   pub turned_more : (days' : List ℕ) (count' : ℕ) → days' ≡ set days count (get_or parts i 0) → count' ≡ count + 1 → count < 11 → 0 < get_or parts i 0 → (length days' ≡ 11) × (count' ≤ 11) × (take count' days' ≡ filter (ltb 0) (take (i + 1) parts))
-  turned_more days' count' days-are count-is left some =
-      let long = ap length days-are in (
+  turned_more days' count' days_are count_is left some =
+      let long = ap length days_are in (
         (rw length-set at long) ∙ room,
         omega arith,
-        ap (take count') days-are ∙ ap (λ k. take k (set days count (get_or parts i 0))) count-is ∙ packed_more left some,
+        ap (take count') days_are ∙ ap (λ k. take k (set days count (get_or parts i 0))) count_is ∙ packed_more left some,
       )
 
   pub turned_same : (days' : List ℕ) (count' : ℕ) → days' ≡ days → count' ≡ count → get_or parts i 0 ≤ 0 → (length days' ≡ 11) × (count' ≤ 11) × (take count' days' ≡ filter (ltb 0) (take (i + 1) parts))
-  turned_same days' count' days-are count-is none = (
-    ap length days-are ∙ room,
+  turned_same days' count' days_are count_is none = (
+    ap length days_are ∙ room,
     omega arith,
-    ap (take count') days-are ∙ ap (λ k. take k days) count-is ∙ packed_same none,
+    ap (take count') days_are ∙ ap (λ k. take k days) count_is ∙ packed_same none,
   )

@@ -32,7 +32,7 @@ nothing_if : (b : Bool) → cond {A = ℕ} b 0 0 ≡ 0
 nothing_if true = refl
 nothing_if false = refl
 
-no_mw : (product : Product) (place : ℕ) (offers : List Offer) → volume product offers (each (λ o is-taken. cond is-taken (width o) 0) offers (takes_from place 0 offers)) ≡ 0
+no_mw : (product : Product) (place : ℕ) (offers : List Offer) → volume product offers (each (λ o is_taken. cond is_taken (width o) 0) offers (takes_from place 0 offers)) ≡ 0
 no_mw product place [] = refl
 no_mw product place (o ∷ os) =
     let e : cond (is_of product o.product) (cond (has_block o && holds 0 place) (width o) 0) 0 ≡ 0 = ap (λ b. cond (is_of product o.product) (cond b (width o) 0) 0) (none_chosen (has_block o) place) ∙ nothing_if (is_of product o.product) in
@@ -63,14 +63,14 @@ module _ (choice : ℕ) where
   next_half : (place : ℕ) → choice / 2 ^ (place + 1) ≡ choice / 2 ^ place / 2
   next_half place = rw (add-one, pow-suc 2 place) (sym (div-div-eq-div-mul choice (2 ^ place) 2))
 
-  ones_from : (place : ℕ) (offers : List Offer) → choice / 2 ^ place < choices offers → count (λ is-taken. is-taken) (takes_from place choice offers) ≡ ones (choice / 2 ^ place)
+  ones_from : (place : ℕ) (offers : List Offer) → choice / 2 ^ place < choices offers → count (λ is_taken. is_taken) (takes_from place choice offers) ≡ ones (choice / 2 ^ place)
   ones_from place [] h = let e : choice / 2 ^ place ≡ 0 = omega arith in sym (ap ones e ∙ ones_zero)
   ones_from place (o ∷ os) h = by (has_block o) h (ones_from place os) (ones_from (place + 1) os)
     where
       by : (b : Bool) → choice / 2 ^ place < 2 ^ (cond b 1 0 + count has_block os) →
-          (choice / 2 ^ place < choices os → count (λ is-taken. is-taken) (takes_from place choice os) ≡ ones (choice / 2 ^ place)) →
-          (choice / 2 ^ (place + 1) < choices os → count (λ is-taken. is-taken) (takes_from (place + 1) choice os) ≡ ones (choice / 2 ^ (place + 1))) →
-          cond (b && holds choice place) 1 0 + count (λ is-taken. is-taken) (takes_from (place + cond b 1 0) choice os) ≡ ones (choice / 2 ^ place)
+          (choice / 2 ^ place < choices os → count (λ is_taken. is_taken) (takes_from place choice os) ≡ ones (choice / 2 ^ place)) →
+          (choice / 2 ^ (place + 1) < choices os → count (λ is_taken. is_taken) (takes_from (place + 1) choice os) ≡ ones (choice / 2 ^ (place + 1))) →
+          cond (b && holds choice place) 1 0 + count (λ is_taken. is_taken) (takes_from (place + cond b 1 0) choice os) ≡ ones (choice / 2 ^ place)
       by true h here next =
           let wide = pow-suc 2 (count has_block os) in
           let h' = subst (λ n. choice / 2 ^ place < 2 ^ n) (one-add (count has_block os)) h in
@@ -79,7 +79,7 @@ module _ (choice : ℕ) where
           let halved = ap ones half in
           omega (arith, one_digit (choice / 2 ^ place), rest, halved, ones_step (choice / 2 ^ place))
       by false h here next =
-          zero-add (count (λ is-taken. is-taken) (takes_from (place + 0) choice os)) ∙ (ap (λ p. count (λ is-taken. is-taken) (takes_from p choice os)) (add-zero place) ∙ here (subst (λ n. choice / 2 ^ place < 2 ^ n) (zero-add (count has_block os)) h))
+          zero-add (count (λ is_taken. is_taken) (takes_from (place + 0) choice os)) ∙ (ap (λ p. count (λ is_taken. is_taken) (takes_from p choice os)) (add-zero place) ∙ here (subst (λ n. choice / 2 ^ place < 2 ^ n) (zero-add (count has_block os)) h))
 
 pub ones_taken : OnesTaken
 ones_taken offers choice h =

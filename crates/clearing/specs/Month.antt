@@ -24,8 +24,8 @@ pub data Block : Type 0 where
   chosen : (price : ℕ) → Block
   other : (price : ℕ) → Block
 
-abbrev pub block_of : Option ℕ → (is-taken : Bool) → Block
-block_of None is-taken = none
+abbrev pub block_of : Option ℕ → (is_taken : Bool) → Block
+block_of None is_taken = none
 block_of (Some p) true = chosen p
 block_of (Some p) false = other p
 
@@ -36,14 +36,14 @@ module _ (offers : List Offer) (choice : ℕ) where
 
   -- what the choice makes of each offer
   abbrev pub blocks : List Block
-  blocks = each (λ o is-taken. block_of o.block is-taken) offers (takes choice offers)
+  blocks = each (λ o is_taken. block_of o.block is_taken) offers (takes choice offers)
 
   abbrev pub blocks_taken : ℕ
-  blocks_taken = count (λ is-taken. is-taken) (takes choice offers)
+  blocks_taken = count (λ is_taken. is_taken) (takes choice offers)
 
   -- MW of the taken blocks of a product
   abbrev pub taken_mw : Product → ℕ
-  taken_mw product = volume product offers (each (λ o is-taken. cond is-taken (width o) 0) offers (takes choice offers))
+  taken_mw product = volume product offers (each (λ o is_taken. cond is_taken (width o) 0) offers (takes choice offers))
 
   -- what the periods' own awards have still to cover: RR blocks serve the RR need and both needs together, RC blocks only these
   abbrev pub still : Need → Cover

@@ -65,8 +65,8 @@ rc letter mw cents = one_range letter Complementary plain mw (cents ∷ []) None
 abbrev pub twenty : (letter : ℕ) → Product → (cents more : ℕ) → Offer
 twenty letter product cents more = offer letter product plain 10 (10 ∷ 10 ∷ []) ((cents ∷ more ∷ []) ∷ []) None
 
-abbrev pub need : (for-rr for-rc : ℕ) → Need
-need for-rr for-rc = record { rapid = for-rr; complementary = for-rc }
+abbrev pub need : (for_rr for_rc : ℕ) → Need
+need for_rr for_rc = record { rapid = for_rr; complementary = for_rc }
 
 -- ---- awards
 

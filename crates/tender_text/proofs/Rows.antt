@@ -20,11 +20,11 @@ module _ (counts : List ℕ) (past : ℕ) where
 -- ---- the rows of offers
 
 pub row_added : (before name tail middle after name' tail' : List ℕ) → middle ≡ before ++ name' → name' ≡ name → after ≡ middle ++ tail' → tail' ≡ tail → after ≡ before ++ ((name ++ tail) ++ [])
-row_added before name tail middle after name' tail' middle-is name-is after_is tail-is =
+row_added before name tail middle after name' tail' middle_is name_is after_is tail_is =
     after_is
-    ∙ ap (λ t. middle ++ t) tail-is
-    ∙ ap (λ m. m ++ tail) middle-is
-    ∙ ap (λ n. (before ++ n) ++ tail) name-is
+    ∙ ap (λ t. middle ++ t) tail_is
+    ∙ ap (λ m. m ++ tail) middle_is
+    ∙ ap (λ n. (before ++ n) ++ tail) name_is
     ∙ append_assoc before name tail
     ∙ ap (λ s. before ++ s) (sym (append-nil (name ++ tail)))
 
@@ -44,5 +44,5 @@ module _ (offers : List Kept) (i : ℕ) where
 -- ---- the two tables
 
 pub tables_joined : (first heading rows one two three : List ℕ) → one ≡ first → two ≡ one ++ heading → three ≡ two ++ rows → three ≡ first ++ (heading ++ rows)
-tables_joined first heading rows one two three one-is two_is three-is =
-    three-is ∙ ap (λ t. t ++ rows) (two_is ∙ ap (λ o. o ++ heading) one-is) ∙ append_assoc first heading rows
+tables_joined first heading rows one two three one_is two_is three_is =
+    three_is ∙ ap (λ t. t ++ rows) (two_is ∙ ap (λ o. o ++ heading) one_is) ∙ append_assoc first heading rows

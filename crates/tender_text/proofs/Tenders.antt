@@ -30,5 +30,5 @@ tender_told input told days sheets offers lines month needs entered =
 
 -- what is printed for a tender that was read
 pub printed : (expected : Result Tender TenderFault) (tender : Tender) (days : List ℕ) (offers : List Offer) → expected ≡ Ok tender → days ≡ tender.days → offers ≡ tender.offers → period_table days ++ offer_table offers ≡ report expected
-printed expected tender days offers is same-days same-offers =
-    ap (λ d. period_table d ++ offer_table offers) same-days ∙ ap (λ os. period_table tender.days ++ offer_table os) same-offers ∙ ap report (sym is)
+printed expected tender days offers is same_days same_offers =
+    ap (λ d. period_table d ++ offer_table offers) same_days ∙ ap (λ os. period_table tender.days ++ offer_table os) same_offers ∙ ap report (sym is)
