@@ -1,4 +1,4 @@
--- AllByRecursion awards that can be admitted in a period, listed from the definitions: every candidate price, every lawful power, all combinations. Assumes nothing.
+-- All awards that can be admitted in a period, listed from the definitions: every candidate price, every lawful power, all combinations. Assumes nothing.
 use Rattle.std.proofs.Common.{◌≡◌, ℕ, zero, suc, ◌+◌, ◌-◌, ◌<◌, ◌≤◌, Bool, true, false, cond, ◌&&◌, T, ltb, leb, List, [], ◌∷◌, ◌++◌, map, take, replicate, ℤ, pos, negsuc, filter, refl, subst, inl, inr, arith, le→leb, lt→ltb}
 use mathlib.Core.Logic.{by_cases}
 use mathlib.Core.List.Memᴰ

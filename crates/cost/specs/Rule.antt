@@ -25,7 +25,7 @@ pub record Rule : Type 1 where
   pub nothing : Meaning
   pub joined : Meaning → Meaning → Meaning
   pub cheaper : Meaning → Meaning → Type 0
-  -- by the marginal price, the accepted MW and the left_out MW alone
+  -- by the marginal price, the accepted MW and the left-out MW alone
   pub charged : (price accepted out : ℕ) → Meaning
   pub laws : Laws nothing joined cheaper
 

@@ -93,7 +93,7 @@ impl PerRange {
         }
     }
 
-    /// AllByRecursion of them.
+    /// All of them.
     pub(crate) fn as_slice(&self) -> &[u32]
         ensures numbers { result.now ≡ numbers_of self.now }
         ensures few { length result.now ≤ most_ranges }
