@@ -1,5 +1,5 @@
 mod Days
-mod Years
+mod Dates
 mod ByWeek
 mod Sound
 mod Months

@@ -1,10 +1,16 @@
-ghost use Rattle.std.specs.Prelude.{◌≡◌, ◌+◌, ◌-◌, ◌*◌, ◌<◌, ◌≤◌, take, sum};
+ghost use Rattle.std.specs.Prelude.{◌≡◌, ◌-◌, ◌<◌, ◌≤◌, take, sum};
 ghost use Rattle.calendar.specs.Date.{leap, year_length, month_lengths, month_length, days_before_year, first_weekday};
+ghost use Rattle.calendar.specs.declared.date.TheConstants.{FIRST_YEAR, LAST_YEAR, MONTHS};
 
-/// The year from whose first day all days are counted.
-const FIRST_YEAR: u64 = 2000;
+/// The first year for which a tender is opened. All days are counted from its first day.
+pub(crate) const FIRST_YEAR: u64 = 2000;
 
-/// The weekday of that first day, counted from Monday as 0: a Saturday.
+pub(crate) const LAST_YEAR: u64 = 2099;
+
+/// The months of a year.
+pub(crate) const MONTHS: u64 = 12;
+
+/// The weekday of the first day of the first year, counted from Monday as 0: a Saturday.
 const FIRST_DAY: u32 = 5;
 
 /// The days of a week.
@@ -24,49 +30,54 @@ fn year_length(year: u64) -> u32
     if is_leap(year) { 366 } else { 365 }
 }
 
-/// The days of a month, which is counted from 1.
-pub(crate) fn month_length(year: u64, month: u64) -> u32
-    requires { (1 ≤ month) × (month ≤ 12) }
-    ensures value { result ≡ month_length year month }
-    ensures some { 28 ≤ result }
-    ensures bound { result ≤ 31 }
+fn month_lengths(year: u64) -> [u32; MONTHS as usize]
+    ensures { result ≡ month_lengths year }
 {
     let february = if is_leap(year) { 29 } else { 28 };
-    let lengths = [31, february, 31, 30, 31, 30, 31, 31, 30, 31, 30, 31];
-    lengths[month as usize - 1]
+    [31, february, 31, 30, 31, 30, 31, 31, 30, 31, 30, 31]
 }
 
-/// The days from 1 January 2000 to the first of January of a year.
-fn days_before_year(year: u64) -> u32
-    requires { (2000 ≤ year) × (year ≤ 2099) }
-    ensures value { result ≡ days_before_year year }
-    ensures bound { result ≤ 36600 }
-{
-    let mut days = 0;
-    for y in FIRST_YEAR..year {
-        days += year_length(y);
+/// A month for which a tender may be opened, counted from 1.
+#[derive(Clone, Copy)]
+pub(crate) struct Month {
+    pub(crate) year: u64,
+    pub(crate) month: u64,
+    ghost in_years: { (FIRST_YEAR ≤ year) × (year ≤ LAST_YEAR) },
+    ghost in_year: { (1 ≤ month) × (month ≤ MONTHS) },
+}
+
+impl Month {
+    /// The days of the month.
+    pub(crate) fn length(self) -> u32
+        ensures value { result ≡ month_length self.year self.month }
+        ensures some { 28 ≤ result }
+        ensures bound { result ≤ 31 }
+    {
+        month_lengths(self.year)[self.month as usize - 1]
     }
-    days
-}
 
-/// The days from the first of January of a year to the first of a month.
-fn days_before_month(year: u64, month: u64) -> u32
-    requires { (1 ≤ month) × (month ≤ 12) }
-    ensures value { result ≡ sum (take (month - 1) (month_lengths year)) }
-    ensures bound { result ≤ 372 }
-{
-    let mut days = 0;
-    for m in 1..month {
-        days += month_length(year, m);
+    #[tactic(auto, using(crate::proofs::Dates::years_most, crate::proofs::Dates::months_most))]
+    /// The weekday of the first of the month: Monday is 0.
+    pub(crate) fn first_weekday(self) -> u32
+        ensures value { result ≡ first_weekday self.year self.month }
+        ensures bound { result < 7 }
+    {
+        (FIRST_DAY + self.days_before_year() + self.days_before_month()) % WEEK
     }
-    days
-}
 
-/// The weekday of the first of a month: Monday is 0.
-pub(crate) fn first_weekday(year: u64, month: u64) -> u32
-    requires { (2000 ≤ year) × ((year ≤ 2099) × ((1 ≤ month) × (month ≤ 12))) }
-    ensures value { result ≡ first_weekday year month }
-    ensures bound { result < 7 }
-{
-    (FIRST_DAY + (days_before_year(year) + days_before_month(year, month))) % WEEK
+    /// The days before the first of January.
+    fn days_before_year(self) -> u32
+        ensures { result ≡ days_before_year self.year }
+    {
+        (FIRST_YEAR..self.year).map(year_length).sum()
+    }
+
+    /// The days from the first of January to the first of the month.
+    fn days_before_month(self) -> u32
+        ensures { result ≡ sum (take (self.month - 1) (month_lengths self.year)) }
+    {
+        month_lengths(self.year)[..self.month as usize - 1]
+            .iter()
+            .sum()
+    }
 }

@@ -6,18 +6,10 @@ ghost use Rattle.calendar.specs.Opening.{announced, rising, opened};
 ghost use Rattle.calendar.specs.Periods.{periods};
 ghost use Rattle.calendar.specs.declared.fault.CalendarFault.TheVariants.{Weeks};
 
-use crate::date::{first_weekday, month_length};
+use crate::date::{FIRST_YEAR, LAST_YEAR, MONTHS, Month};
 use crate::fault::CalendarFault;
 use crate::month::{Calendar, MOST_PERIODS};
 use crate::weeks::by_week;
-
-/// The years for which a tender is opened.
-const FIRST_YEAR: u64 = 2000;
-
-const LAST_YEAR: u64 = 2099;
-
-/// The months of a year.
-const MONTHS: u64 = 12;
 
 /// A month has at most so many holidays.
 pub const MOST_HOLIDAYS: u64 = 8;
@@ -26,10 +18,8 @@ pub const MOST_HOLIDAYS: u64 = 8;
 pub fn is_announced(year: u64, month: u64, holidays: u64) -> bool
     ensures { result ≡ announced year month holidays }
 {
-    FIRST_YEAR <= year
-        && year <= LAST_YEAR
-        && 1 <= month
-        && month <= MONTHS
+    (FIRST_YEAR..=LAST_YEAR).contains(&year)
+        && (1..=MONTHS).contains(&month)
         && holidays <= MOST_HOLIDAYS
 }
 
@@ -88,10 +78,11 @@ impl Calendar {
         if !is_announced(year, month, holidays.len() as u64) {
             return Err(CalendarFault::Date);
         }
-        let days = month_length(year, month);
+        let month = Month { year, month };
+        let days = month.length();
         if !is_rising(days, holidays) {
             return Err(CalendarFault::Date);
         }
-        Ok(of_month(first_weekday(year, month), days, holidays))
+        Ok(of_month(month.first_weekday(), days, holidays))
     }
 }

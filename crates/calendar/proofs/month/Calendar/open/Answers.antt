@@ -14,7 +14,7 @@ returns-then-not-is_announced c =
 
 pub returns-then-not-is_rising : goal.returns-then-not-is_rising
 returns-then-not-is_rising c =
-    let length_is = c.month_length-days.ensures.value in
+    let length_is = c.length-days.ensures.value in
     let date = unrisen c.args.year c.args.month c.args.holidays.now (ap (λ last. rising 0 last c.args.holidays.now) (sym length_is) ∙ sym c.if-not-is_rising.ensures) in
     record { value = sym date; kept = tt; never_weeks = date_not_weeks c.args.year c.args.month c.args.holidays.now date }
 
@@ -23,12 +23,12 @@ returns c =
     let year = c.args.year in
     let month = c.args.month in
     let holidays = c.args.holidays.now in
-    let length_is = c.month_length-days.ensures.value in
+    let length_is = c.length-days.ensures.value in
     let first_is = c.first_weekday.ensures.value in
     let counts = day_counts c.of_month.result in
     let is : counts ≡ month_periods year month holidays =
     c.of_month.ensures.value
-    ∙ ap (λ first. periods first c.month_length-days.result holidays) first_is
+    ∙ ap (λ first. periods first c.length-days.result holidays) first_is
     ∙ ap (λ days. periods (first_weekday year month) days holidays) length_is
     in
     let kept = subst (λ days. Kept days counts) length_is c.of_month.ensures.kept in
