@@ -8,5 +8,4 @@ number Date = 15
 number Weeks = 16
 
 abbrev pub place : CalendarFault → ℕ
-place Date = 0
-place Weeks = 0
+place fault = 0

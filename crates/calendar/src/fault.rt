@@ -2,7 +2,7 @@ ghost use Rattle.std.specs.Prelude.{◌≡◌};
 ghost use Rattle.calendar.specs.Fault as faults;
 
 /// Why no calendar is opened.
-#[derive(Clone, Copy, PartialEq, Debug)]
+#[derive(Clone, Copy, PartialEq, Eq, Debug)]
 pub enum CalendarFault {
     /// The year, the month or the holidays are wrong.
     Date,
@@ -25,9 +25,6 @@ impl CalendarFault {
     pub fn place(self) -> u32
         ensures { result ≡ faults.place self }
     {
-        match self {
-            CalendarFault::Date => 0,
-            CalendarFault::Weeks => 0,
-        }
+        0
     }
 }

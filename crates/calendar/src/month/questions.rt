@@ -17,20 +17,14 @@ impl Calendar {
     pub fn day_counts(&self) -> &[u32]
         ensures { result.now ≡ day_counts self.now }
     {
-        &self.days[0..self.count]
+        &self.days[..self.count]
     }
 
     /// The days of a period, counted from 1; none outside the month.
     pub fn days(&self, period: usize) -> Option<u32>
         ensures { result ≡ days_in (day_counts self.now) period }
     {
-        if period < 1 {
-            return None;
-        }
-        if period > self.count {
-            return None;
-        }
-        Some(self.days[period - 1])
+        self.day_counts().get(period.checked_sub(1)?).copied()
     }
 
     /// The days of the whole month.
@@ -38,17 +32,6 @@ impl Calendar {
         ensures value { result ≡ sum (day_counts self.now) }
         ensures bound { result ≤ 31 }
     {
-        total(self.day_counts())
+        self.day_counts().iter().sum()
     }
-}
-
-fn total(counts: &[u32]) -> u32
-    requires { sum counts.now ≤ 31 }
-    ensures { result ≡ sum counts.now }
-{
-    let mut days = 0;
-    for count in counts {
-        days += *count;
-    }
-    days
 }
