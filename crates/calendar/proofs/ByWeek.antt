@@ -1,5 +1,5 @@
 -- The days of a month, counted week by week.
-use Rattle.std.proofs.Common.{◌≡◌, ℕ, zero, suc, ◌+◌, ◌/◌, ◌<◌, ◌≤◌, Bool, true, false, cond, not, ◌&&◌, eqb, List, [], ◌∷◌, ◌++◌, map, length, get_or, set, count_by, sym, refl, ap, ◌∙◌, subst, add-zero, add-one, arith}
+use Rattle.std.proofs.Common.{◌≡◌, ℕ, zero, suc, ◌+◌, ◌-◌, ◌/◌, ◌<◌, ◌≤◌, Bool, true, false, cond, not, ◌&&◌, eqb, List, [], ◌∷◌, ◌++◌, map, length, get_or, set, count_by, sym, refl, ap, ◌∙◌, subst, add-zero, add-one, arith}
 use Rattle.std.specs.List.{range_with_len, concat, AllByRecursion}
 use Rattle.std.proofs.lemmas.List.Sums.{sum_by_push, count_by-le-length}
 use Rattle.std.proofs.lemmas.List.FromFn.{length-range_with_len}
@@ -84,6 +84,14 @@ module _ (first : ℕ) (holidays : List ℕ) (n : ℕ) where
 
   pub part_most : (k : ℕ) → k < 12 → get_or (by_week first n holidays) k 0 ≤ n
   part_most k within = All-get_or (λ days. days ≤ n) (by_week first n holidays) k 0 (omega (arith, length_by_week)) parts_most
+
+-- the counts with one day more, which the program writes in place
+pub day_counted : (first day : ℕ) (holidays counts : List ℕ) (k : ℕ) → 1 ≤ day → since_monday first day / 7 < 6 → counts ≡ by_week first (day - 1) holidays → k ≡ part (since_monday first day / 7) (working first holidays day) → set counts k (get_or counts k 0 + 1) ≡ by_week first day holidays
+day_counted first day holidays counts k some within counted at =
+    let is : day - 1 + 1 ≡ day = omega arith in
+    let more = month_more first holidays (day - 1) (omega arith) in
+    let here = rw is at more in
+    cc
 
 pub month_none : (first : ℕ) (holidays : List ℕ) → by_week first 0 holidays ≡ 0 ∷ 0 ∷ 0 ∷ 0 ∷ 0 ∷ 0 ∷ 0 ∷ 0 ∷ 0 ∷ 0 ∷ 0 ∷ 0 ∷ []
 unfolding by_week

@@ -1,33 +1,61 @@
--- Holidays, day by day.
-use Rattle.std.proofs.Common.{◌≡◌, ℕ, suc, ◌+◌, ◌<◌, ◌≤◌, true, false, ◌&&◌, ltb, List, length, get_or, drop, refl, add-one, drop-cons, eq-eqb, ne_eqb}
-use Rattle.std.proofs.lemmas.List.{drop_all}
-use Rattle.std.proofs.lemmas.Bool.{lt-ltb, le-ltb, le-leb, lt-leb, and_left, and_right}
-use Rattle.calendar.specs.Periods.{listed}
+-- Holidays that rise, day by day.
+use Rattle.std.proofs.Common.{◌≡◌, ℕ, zero, suc, ◌+◌, ◌<◌, Bool, true, false, ◌&&◌, ltb, leb, List, [], ◌∷◌, length, get_or, refl, sym, ⊎_elim, add-one, arith}
+use Rattle.std.specs.List.{list_all}
+use Rattle.std.specs.Cmp.{both_ways}
+use Rattle.std.proofs.lemmas.Bool.{cases_Bool, ltb-true, lt-ltb, leb-true, le-leb, and_parts}
 use Rattle.calendar.specs.Opening.{rising}
 
-module _ (day : ℕ) (holidays : List ℕ) (i : ℕ) (within : i < length holidays) where
-  pub listed_here : day ≡ get_or holidays i 0 → listed day (drop i holidays) ≡ true
-  listed_here same = rw (drop-cons holidays i 0 within, eq-eqb day (get_or holidays i 0) same) refl
+abbrev pub in_month : (last day : ℕ) → Bool
+in_month last day = leb 1 day && leb day last
 
-  pub listed_later : (day ≡ get_or holidays i 0 → ⊥) → listed day (drop (i + 1) holidays) ≡ listed day (drop i holidays)
-  listed_later other = rw (add-one, drop-cons holidays i 0 within, ne_eqb day (get_or holidays i 0) other) refl
+abbrev pub Rises : List ℕ → Type 0
+Rises days = (k d : ℕ) → k + 1 < length days → true ≡ ltb (get_or days k d) (get_or days (k + 1) d)
 
-pub listed_none : (day : ℕ) (holidays : List ℕ) (i : ℕ) → length holidays ≤ i → listed day (drop i holidays) ≡ false
-listed_none day holidays i past = rw (drop_all i holidays past) refl
+first_next : (day next : ℕ) (days : List ℕ) → Rises (day ∷ next ∷ days) → day < next
+first_next day next days up = ltb-true day next (let h = up 0 0 (omega arith) in cc)
 
--- ---- the holidays rise
+rest_rises : (day : ℕ) (days : List ℕ) → Rises (day ∷ days) → Rises days
+rest_rises day days up k d h = rw (add-one) (let next = up (suc k) d (omega arith) in rw add-one at next)
 
-module _ (after last : ℕ) (holidays : List ℕ) (i : ℕ) (within : i < length holidays) where
-  pub falls_back : get_or holidays i 0 ≤ after → rising after last (drop i holidays) ≡ false
-  falls_back low = rw (drop-cons holidays i 0 within, le-ltb after (get_or holidays i 0) low) refl
+-- ---- a list that passes the test
 
-  pub goes_past : last < get_or holidays i 0 → rising after last (drop i holidays) ≡ false
-  goes_past high =
-      rw (drop-cons holidays i 0 within, lt-leb (get_or holidays i 0) last high)
-      (and_left (ltb after (get_or holidays i 0) && false) (rising (get_or holidays i 0) last (drop (suc i) holidays)) (and_right (ltb after (get_or holidays i 0)) false refl))
+rising-in_month : (after last : ℕ) (days : List ℕ) → rising after last days ≡ true → list_all (in_month last) days ≡ true
+rising-in_month after last [] up = refl
+rising-in_month after last (day ∷ days) up =
+    let (here, rest) = and_parts (ltb after day && leb day last) (rising day last days) up in
+    let (low, high) = and_parts (ltb after day) (leb day last) here in
+    let above = ltb-true after day low in
+    rw (le-leb 1 day (omega arith), high) (rising-in_month day last days rest)
 
-  pub rises : after < get_or holidays i 0 → get_or holidays i 0 ≤ last → rising (get_or holidays i 0) last (drop (i + 1) holidays) ≡ rising after last (drop i holidays)
-  rises low high = rw (add-one, drop-cons holidays i 0 within, lt-ltb after (get_or holidays i 0) low, le-leb (get_or holidays i 0) last high) refl
+rising-rises : (after last : ℕ) (days : List ℕ) → rising after last days ≡ true → Rises days
+rising-rises after last [] up k d h = absurd (omega arith)
+rising-rises after last (day ∷ []) up k d h = absurd (omega arith)
+rising-rises after last (day ∷ next ∷ days) up zero d h = let (here, rest) = and_parts (ltb after day && leb day last) (rising day last (next ∷ days)) up in let (first, others) = and_parts (ltb day next && leb next last) (rising next last days) rest in let up = (and_parts (ltb day next) (leb next last) first).0 in cc
+rising-rises after last (day ∷ next ∷ days) up (suc k) d h = rw add-one (let (here, rest) = and_parts (ltb after day && leb day last) (rising day last (next ∷ days)) up in let more = rising-rises day last (next ∷ days) rest k d (omega arith) in rw add-one at more)
 
-pub risen : (after last : ℕ) (holidays : List ℕ) (i : ℕ) → length holidays ≤ i → rising after last (drop i holidays) ≡ true
-risen after last holidays i past = rw (drop_all i holidays past) refl
+pub not_rising : (last : ℕ) (days : List ℕ) (k : ℕ) → k + 1 < length days → false ≡ ltb (get_or days k 0) (get_or days (k + 1) 0) → false ≡ rising 0 last days
+not_rising last days k within falls = ⊎_elim
+    (λ up. let rises = rising-rises 0 last days up k 0 within in cc)
+    (λ not_up. sym not_up)
+    (cases_Bool (rising 0 last days))
+
+-- ---- a list that rises and lies in the month
+
+rising-from : (day last : ℕ) (days : List ℕ) → Rises (day ∷ days) → list_all (in_month last) days ≡ true → rising day last days ≡ true
+rising-from day last [] up all = refl
+rising-from day last (next ∷ days) up all =
+    let (here, rest) = and_parts (in_month last next) (list_all (in_month last) days) all in
+    let (low, high) = and_parts (leb 1 next) (leb next last) here in
+    rw (lt-ltb day next (first_next day next days up), high) (rising-from next last days (rest_rises day (next ∷ days) up) rest)
+
+rising-in_month_rises : (last : ℕ) (days : List ℕ) → Rises days → list_all (in_month last) days ≡ true → rising 0 last days ≡ true
+rising-in_month_rises last [] up all = refl
+rising-in_month_rises last (day ∷ days) up all =
+    let (here, rest) = and_parts (in_month last day) (list_all (in_month last) days) all in
+    let (low, high) = and_parts (leb 1 day) (leb day last) here in
+    let above = leb-true 1 day low in
+    rw (lt-ltb 0 day (omega arith), high) (rising-from day last days up rest)
+
+pub rising-list_all : (last : ℕ) (days : List ℕ) → Rises days → list_all (in_month last) days ≡ rising 0 last days
+rising-list_all last days up =
+    both_ways (list_all (in_month last) days) (rising 0 last days) (rising-in_month_rises last days up) (rising-in_month 0 last days)

@@ -3,5 +3,4 @@ mod Dates
 mod ByWeek
 mod Sound
 mod Packs
-mod Openings
 mod Examples

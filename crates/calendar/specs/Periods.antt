@@ -1,15 +1,14 @@
 -- The periods of a month: each week's working days, then its other days. Assumes nothing.
 -- A month is given by the weekday of its first day, its length and its holidays, which are days of the month.
-use Rattle.std.specs.Prelude.{ℕ, ◌+◌, ◌-◌, ◌*◌, ◌/◌, ◌%◌, Bool, true, false, cond, not, ◌&&◌, ◌||◌, ltb, List, [], ◌∷◌, map, count_by, filter, ◌==◌, nat_lt}
-use Rattle.std.specs.List.{range_with_len, concat}
+use Rattle.std.specs.Prelude.{ℕ, ◌+◌, ◌-◌, ◌*◌, ◌/◌, ◌%◌, Bool, true, false, cond, not, ◌&&◌, ltb, List, [], ◌∷◌, map, count_by, filter, ◌==◌, nat_lt}
+use Rattle.std.specs.List.{range_with_len, concat, list_any}
 
 -- the days from the Monday on or before the first to a day of the month
 abbrev pub since_monday : (first day : ℕ) → ℕ
 since_monday first day = first + (day - 1)
 
 abbrev pub listed : (day : ℕ) → List ℕ → Bool
-listed day [] = false
-listed day (holiday ∷ holidays) = day == holiday || listed day holidays
+listed day holidays = list_any (λ holiday. holiday == day) holidays
 
 -- Monday to Friday, and no holiday
 abbrev pub working : (first : ℕ) → List ℕ → (day : ℕ) → Bool

@@ -9,7 +9,7 @@ ghost use Rattle.calendar.specs.declared.fault.CalendarFault.TheVariants.{Weeks}
 use crate::date::{FIRST_YEAR, LAST_YEAR, MONTHS, Month};
 use crate::fault::CalendarFault;
 use crate::month::{Calendar, MOST_PERIODS};
-use crate::weeks::by_week;
+use crate::weeks::MonthDays;
 
 /// A month has at most so many holidays.
 pub const MOST_HOLIDAYS: u64 = 8;
@@ -21,23 +21,6 @@ pub fn is_announced(year: u64, month: u64, holidays: u64) -> bool
     (FIRST_YEAR..=LAST_YEAR).contains(&year)
         && (1..=MONTHS).contains(&month)
         && holidays <= MOST_HOLIDAYS
-}
-
-/// Whether the holidays are rising days of a month of so many days.
-fn is_rising(last: u32, holidays: &[u64]) -> bool
-    ensures { result ≡ rising 0 last holidays.now }
-{
-    let mut after = 0;
-    for holiday in holidays {
-        if *holiday <= after {
-            return false;
-        }
-        if *holiday > u64::from(last) {
-            return false;
-        }
-        after = *holiday;
-    }
-    true
 }
 
 /// The periods that have days.
@@ -56,13 +39,13 @@ fn pack(parts: &[u32]) -> Calendar
     Calendar { days, count }
 }
 
-/// The calendar of a month by the weekday of its first day, its length and its holidays.
-fn of_month(first: u32, days: u32, holidays: &[u64]) -> Calendar
-    requires { (first < 7) × ((1 ≤ days) × (days ≤ 31)) }
-    ensures value { day_counts result ≡ periods first days holidays.now }
-    ensures kept { Kept days (day_counts result) }
+/// The calendar of a month by its days.
+#[tactic(auto, using(crate::proofs::Sound::is_sound, crate::proofs::Sound::kept))]
+fn of_month(month: &MonthDays<'_>) -> Calendar
+    ensures value { day_counts result ≡ periods month.now.first month.now.days month.now.holidays.now }
+    ensures kept { Kept month.now.days (day_counts result) }
 {
-    pack(&by_week(first, days, holidays))
+    pack(&month.by_week())
 }
 
 impl Calendar {
@@ -70,6 +53,7 @@ impl Calendar {
     ///
     /// A wrong year, month or list of holidays is refused. More than eleven periods would be refused too, but no
     /// month has them.
+    #[tactic(auto, unfolding(crate::specs::Opening::opened))]
     pub fn open(year: u64, month: u64, holidays: &[u64]) -> Result<Calendar, CalendarFault>
         ensures value { told result ≡ opened year month holidays.now }
         ensures kept { IfOk result (λ calendar. Kept (month_length year month) (day_counts calendar)) }
@@ -78,11 +62,10 @@ impl Calendar {
         if !is_announced(year, month, holidays.len() as u64) {
             return Err(CalendarFault::Date);
         }
-        let month = Month { year, month };
-        let days = month.length();
-        if !is_rising(days, holidays) {
+        let month = MonthDays::new(Month { year, month }, holidays);
+        if !month.is_rising() {
             return Err(CalendarFault::Date);
         }
-        Ok(of_month(month.first_weekday(), days, holidays))
+        Ok(of_month(&month))
     }
 }
