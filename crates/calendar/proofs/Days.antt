@@ -33,9 +33,9 @@ rising-rises after last (day ∷ []) up k d h = absurd (omega arith)
 rising-rises after last (day ∷ next ∷ days) up zero d h = let (here, rest) = and_parts (ltb after day && leb day last) (rising day last (next ∷ days)) up in let (first, others) = and_parts (ltb day next && leb next last) (rising next last days) rest in let up = (and_parts (ltb day next) (leb next last) first).0 in cc
 rising-rises after last (day ∷ next ∷ days) up (suc k) d h = rw add-one (let (here, rest) = and_parts (ltb after day && leb day last) (rising day last (next ∷ days)) up in let more = rising-rises day last (next ∷ days) rest k d (omega arith) in rw add-one at more)
 
-pub not_rising : (last : ℕ) (days : List ℕ) (k : ℕ) → k + 1 < length days → false ≡ ltb (get_or days k 0) (get_or days (k + 1) 0) → false ≡ rising 0 last days
-not_rising last days k within falls = ⊎_elim
-    (λ up. let rises = rising-rises 0 last days up k 0 within in cc)
+pub not_rising : (last : ℕ) (days : List ℕ) → ((k : ℕ) × (k + 1 < length days) × ((d : ℕ) → false ≡ ltb (get_or days k d) (get_or days (k + 1) d))) → false ≡ rising 0 last days
+not_rising last days (k, within, falls) = ⊎_elim
+    (λ up. let rises = rising-rises 0 last days up k 0 within in let falls_here = falls 0 in cc)
     (λ not_up. sym not_up)
     (cases_Bool (rising 0 last days))
 

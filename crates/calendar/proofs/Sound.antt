@@ -2,6 +2,7 @@
 use Rattle.std.proofs.Common.{◌≡◌, ℕ, zero, suc, ◌+◌, ◌-◌, ◌*◌, ◌/◌, ◌%◌, ◌<◌, ◌≤◌, Bool, true, false, cond, not, ◌&&◌, eqb, ltb, List, [], ◌∷◌, length, get_or, take, drop, sum, count_by, filter, sym, refl, ap, ◌∙◌, subst, ⊎_elim, add-one, arith, length-drop, length-take-le}
 use Rattle.std.specs.List.{range_with_len, AllByRecursion}
 use Rattle.std.proofs.lemmas.List.Sums.{sum_by-cons, sum_by-set, sum_by-take-drop, sum_by-drop_more, count_by-le-length, length-filter}
+use Rattle.std.proofs.lemmas.List.{take_all}
 use Rattle.std.proofs.ByRecursion.{all_kept_by, kept_by_passes}
 use Rattle.std.proofs.lemmas.Bool.{ltb-true, ltb-false, cases_lt, cases_Bool, le-ltb, ne_eqb, and_left, and_right, le-leb, cases_eq}
 use Rattle.calendar.specs.Kept.{Kept, week_long, sound}
@@ -105,6 +106,9 @@ few_periods first n holidays early short =
     let (k, within, nothing) = empty_part first n holidays early short in
     let long = length_by_week first holidays n in
     omega (arith, length-filter (ltb 0) (by_week first n holidays), count_short (ltb 0) (by_week first n holidays) k (omega arith) (rw nothing refl))
+
+pub all_few : (first n : ℕ) (holidays : List ℕ) → first < 7 → n ≤ 31 → take 11 (periods first n holidays) ≡ periods first n holidays
+all_few first n holidays early short = take_all 11 (periods first n holidays) (few_periods first n holidays early short)
 
 -- ---- together
 

@@ -1,5 +1,8 @@
-ghost use Rattle.std.specs.Prelude.{◌≡◌, ◌≤◌, true, length, take};
+ghost use Rattle.std.specs.Prelude.{◌≡◌, true};
 ghost use Rattle.calendar.specs.Kept.{sound};
+ghost use Rattle.short_list.specs.ShortList.{items};
+
+use short_list::ShortList;
 
 mod opening;
 mod questions;
@@ -12,9 +15,6 @@ pub const MOST_PERIODS: usize = 11;
 /// The periods of one month, with the day count of each.
 #[derive(Clone, Copy)]
 pub struct Calendar {
-    days: [u32; MOST_PERIODS],
-    count: usize,
-    ghost room: { length days ≡ 11 },
-    ghost few: { count ≤ 11 },
-    ghost kept: { sound (take count days) ≡ true },
+    days: ShortList<u32, MOST_PERIODS>,
+    ghost kept: { sound (items days) ≡ true },
 }

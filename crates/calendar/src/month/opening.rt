@@ -1,15 +1,17 @@
-ghost use Rattle.std.specs.Prelude.{◌≡◌, ◌<◌, ◌≤◌, true, IfOk, Err, filter, ◌≢◌, nat_lt};
+ghost use Rattle.std.specs.Prelude.{◌≡◌, ◌<◌, ◌≤◌, true, IfOk, Err, filter, take, ◌≢◌, nat_lt};
 ghost use Rattle.calendar.specs.Date.{month_length};
-ghost use Rattle.calendar.specs.Kept.{Kept, sound};
+ghost use Rattle.calendar.specs.Kept.{Kept};
 ghost use Rattle.calendar.specs.Month.{day_counts, told};
 ghost use Rattle.calendar.specs.Opening.{announced, rising, opened};
 ghost use Rattle.calendar.specs.Periods.{periods};
+ghost use Rattle.short_list.specs.ShortList.{items};
 ghost use Rattle.calendar.specs.declared.fault.CalendarFault.TheVariants.{Weeks};
 
 use crate::date::{FIRST_YEAR, LAST_YEAR, MONTHS, Month};
 use crate::fault::CalendarFault;
 use crate::month::{Calendar, MOST_PERIODS};
 use crate::weeks::MonthDays;
+use short_list::ShortList;
 
 /// A month has at most so many holidays.
 pub const MOST_HOLIDAYS: u64 = 8;
@@ -24,28 +26,27 @@ pub fn is_announced(year: u64, month: u64, holidays: u64) -> bool
 }
 
 /// The periods that have days.
-fn pack(parts: &[u32]) -> Calendar
-    requires { sound (filter (nat_lt 0) parts.now) ≡ true }
-    ensures { day_counts result ≡ filter (nat_lt 0) parts.now }
+fn pack(parts: &[u32]) -> ShortList<u32, MOST_PERIODS>
+    ensures { items result ≡ take MOST_PERIODS (filter (nat_lt 0) parts.now) }
 {
-    let mut days = [0; MOST_PERIODS];
-    let mut count = 0;
-    for part in parts {
-        if *part > 0 {
-            days[count] = *part;
-            count += 1;
+    let mut days = ShortList::new();
+    for &part in parts {
+        if part > 0 {
+            days.push(part);
         }
     }
-    Calendar { days, count }
+    days
 }
 
 /// The calendar of a month by its days.
-#[tactic(auto, using(crate::proofs::Sound::is_sound, crate::proofs::Sound::kept))]
+#[tactic(auto, using(crate::proofs::Sound::all_few, crate::proofs::Sound::is_sound, crate::proofs::Sound::kept))]
 fn of_month(month: &MonthDays<'_>) -> Calendar
     ensures value { day_counts result ≡ periods month.now.first month.now.days month.now.holidays.now }
     ensures kept { Kept month.now.days (day_counts result) }
 {
-    pack(&month.by_week())
+    Calendar {
+        days: pack(&month.by_week()),
+    }
 }
 
 impl Calendar {

@@ -10,21 +10,21 @@ impl Calendar {
         ensures some { 1 ≤ result }
         ensures few { result ≤ 11 }
     {
-        self.count
+        self.days.len()
     }
 
     /// The day count of each period.
     pub fn day_counts(&self) -> &[u32]
         ensures { result.now ≡ day_counts self.now }
     {
-        &self.days[..self.count]
+        self.days.as_slice()
     }
 
     /// The days of a period, counted from 1; none outside the month.
     pub fn days(&self, period: usize) -> Option<u32>
         ensures { result ≡ days_in (day_counts self.now) period }
     {
-        self.day_counts().get(period.checked_sub(1)?).copied()
+        self.days.get(period.checked_sub(1)?)
     }
 
     /// The days of the whole month.
