@@ -14,6 +14,5 @@ returns-then-is_sorted_by c =
 
 pub returns-else-is_sorted_by : goal.returns-else-is_sorted_by
 returns-else-is_sorted_by c =
-    let month = c.args.self.now in
     c.if-is_sorted_by.false
-    ∙ not_rising month.days month.holidays.now (c.if-is_sorted_by.ensures.cases ltb (always_returns_same _ _ _ (λ a r f k. search (rules, tests))))
+    ∙ not_rising c.args.self.now.days c.args.self.now.holidays.now (c.if-is_sorted_by.ensures.cases ltb (always_returns_same _ _ _ (λ a r f k. search (rules, tests))))
