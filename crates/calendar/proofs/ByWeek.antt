@@ -1,28 +1,17 @@
 -- The days of a month, counted week by week.
-use Rattle.std.proofs.Common.{◌≡◌, ℕ, zero, suc, ◌+◌, ◌-◌, ◌/◌, ◌<◌, ◌≤◌, Bool, true, false, cond, not, ◌&&◌, eqb, List, [], ◌∷◌, ◌++◌, map, length, get_or, set, count_by, sym, refl, ap, ◌∙◌, subst, add-zero, add-one, arith}
+use Rattle.std.proofs.Common.{◌≡◌, ℕ, zero, suc, ◌+◌, ◌-◌, ◌/◌, ◌<◌, ◌≤◌, Bool, true, false, cond, not, ◌&&◌, eqb, List, [], ◌∷◌, map, length, get_or, set, count_by, refl, ◌∙◌, add-zero, arith}
 use Rattle.std.specs.List.{range_with_len, concat, AllByRecursion}
-use Rattle.std.proofs.lemmas.List.Sums.{sum_by_push, count_by-le-length}
-use Rattle.std.proofs.lemmas.List.FromFn.{length-range_with_len}
+use Rattle.std.proofs.lemmas.List.Sums.{count_by-le-length}
+use Rattle.std.proofs.lemmas.List.FromFn.{length-range_with_len, sum_by-map-range_with_len_more}
+use Rattle.std.proofs.lemmas.List.{map-id}
 use Rattle.std.proofs.ByRecursion.{All-get_or}
 use Rattle.calendar.specs.Periods.{since_monday, working, belongs, days_of, part, by_week}
 
 -- ---- one number more
 
-pub counting_more : (a n : ℕ) → range_with_len a (n + 1) ≡ range_with_len a n ++ ((a + n) ∷ [])
-counting_more a zero = rw add-zero refl
-counting_more a (suc n) =
-    let tail : range_with_len (a + 1) (suc n) ≡ range_with_len (a + 1) n ++ ((a + 1 + n) ∷ []) =
-    subst (λ k. range_with_len (a + 1) k ≡ range_with_len (a + 1) n ++ ((a + 1 + n) ∷ [])) (add-one n) (counting_more (a + 1) n)
-    in
-    let last : a + 1 + n ≡ a + suc n = omega arith in
-    let whole : range_with_len a (suc (suc n)) ≡ a ∷ (range_with_len (a + 1) n ++ ((a + suc n) ∷ [])) = ap (λ xs. a ∷ xs) (tail ∙ ap (λ k. range_with_len (a + 1) n ++ (k ∷ [])) last) in
-    subst (λ k. range_with_len a k ≡ range_with_len a (suc n) ++ ((a + suc n) ∷ [])) (sym (add-one (suc n))) whole
-
 pub count_more : (test : ℕ → Bool) (n : ℕ) → count_by test (range_with_len 1 (n + 1)) ≡ count_by test (range_with_len 1 n) + cond (test (n + 1)) 1 0
 count_more test n =
-    let next : 1 + n ≡ n + 1 = omega arith in
-    ap (count_by test) (counting_more 1 n ∙ ap (λ k. range_with_len 1 n ++ (k ∷ [])) next)
-    ∙ sum_by_push (λ day. cond (test day) 1 0) (range_with_len 1 n) (n + 1)
+    simp map-id at (sum_by-map-range_with_len_more (λ day. cond (test day) 1 0) (λ day. day) 1 n (n + 1) (omega arith))
 
 pub count_most : (test : ℕ → Bool) (n : ℕ) → count_by test (range_with_len 1 n) ≤ n
 count_most test n = omega (arith, count_by-le-length test (range_with_len 1 n), length-range_with_len 1 n)

@@ -1,26 +1,19 @@
 -- What the periods of every month keep: one to seven days each, all days of the month together, at most eleven.
-use Rattle.std.proofs.Common.{◌≡◌, ℕ, zero, suc, ◌+◌, ◌-◌, ◌*◌, ◌/◌, ◌%◌, ◌<◌, ◌≤◌, Bool, true, false, cond, not, ◌&&◌, eqb, ltb, List, [], ◌∷◌, length, get_or, take, drop, sum, count_by, filter, sym, refl, ap, ◌∙◌, subst, ⊎_elim, add-one, arith, length-drop, length-take-le}
+use Rattle.std.proofs.Common.{◌≡◌, ℕ, zero, suc, ◌+◌, ◌-◌, ◌*◌, ◌/◌, ◌<◌, ◌≤◌, Bool, true, false, cond, not, ◌&&◌, eqb, ltb, List, [], ◌∷◌, length, get_or, take, sum, count_by, filter, refl, ap, ◌∙◌, subst, ⊎_elim, add-one, arith, rules, tests, length-drop, length-take-le}
 use Rattle.std.specs.List.{range_with_len, AllByRecursion}
-use Rattle.std.proofs.lemmas.List.Sums.{sum_by-cons, sum_by-set, sum_by-take-drop, sum_by-drop_more, count_by-le-length, length-filter}
+use Rattle.std.proofs.lemmas.Grind.{common_steps}
+use Rattle.std.proofs.lemmas.List.Sums.{sum_by-set, sum_by-take-drop, sum_by-drop_more, count_by-le-length, length-filter}
 use Rattle.std.proofs.lemmas.List.{take_all}
 use Rattle.std.proofs.ByRecursion.{all_kept_by, kept_by_passes}
-use Rattle.std.proofs.lemmas.Bool.{ltb-true, ltb-false, cases_lt, cases_Bool, le-ltb, ne_eqb, and_left, and_right, le-leb, cases_eq}
+use Rattle.std.proofs.lemmas.Bool.{cases_lt}
 use Rattle.calendar.specs.Kept.{Kept, week_long, sound}
-use Rattle.calendar.specs.Periods.{since_monday, listed, working, belongs, days_of, part, by_week, periods}
+use Rattle.calendar.specs.Periods.{since_monday, working, belongs, days_of, part, by_week, periods}
 use Rattle.calendar.proofs.ByWeek.{count_more, laid_all, month_more, month_none, length_by_week}
 
 -- ---- a week has seven days
 
-cond_most : (b : Bool) → cond b 1 0 ≤ 1
-cond_most true = omega arith
-cond_most false = omega arith
-
 week_grows : (first week n count : ℕ) (other : Bool) → (count ≤ first + n - 7 * week) × (count ≤ 7) → (let more = count + cond (eqb (since_monday first (n + 1) / 7) week && other) 1 0 in (more ≤ first + (n + 1) - 7 * week) × (more ≤ 7))
-week_grows first week n count other (low, high) =
-    ⊎_elim
-    (λ same. let most = cond_most (eqb (since_monday first (n + 1) / 7) week && other) in (omega (arith, same), omega (arith, same)))
-    (λ apart. let none : ◌≡◌ {A = ℕ} (cond (eqb (since_monday first (n + 1) / 7) week && other) 1 0) 0 = rw (ne_eqb (since_monday first (n + 1) / 7) week apart) refl in (omega arith, omega arith))
-    (cases_eq (since_monday first (n + 1) / 7) week)
+week_grows first week n count other (low, high) = (grind (arith, common_steps), grind (arith, common_steps))
 
 week_most : (first : ℕ) (holidays : List ℕ) (week : ℕ) (works : Bool) (n : ℕ) → (days_of first n holidays week works ≤ first + n - 7 * week) × (days_of first n holidays week works ≤ 7)
 week_most first holidays week works zero = (omega arith, omega arith)
@@ -35,10 +28,7 @@ week_most first holidays week works (suc n) =
 
 sum_kept : (xs : List ℕ) → sum (filter (ltb 0) xs) ≡ sum xs
 sum_kept [] = refl
-sum_kept (x ∷ xs) = ⊎_elim
-    (λ some. rw some (sum_by-cons (λ n. n) x (filter (ltb 0) xs) ∙ ap (λ n. x + n) (sum_kept xs) ∙ sym (sum_by-cons (λ n. n) x xs)))
-    (λ none. rw none (sum_kept xs ∙ (let nothing = ltb-false 0 x none in omega (arith, sum_by-cons (λ n. n) x xs))))
-    (cases_Bool (ltb 0 x))
+sum_kept (x ∷ xs) = grind (arith, common_steps, sum_kept xs)
 
 part_within : (week : ℕ) (works : Bool) → week < 6 → part week works < 12
 part_within week true within = omega arith
@@ -61,15 +51,7 @@ count_short : (test : ℕ → Bool) (xs : List ℕ) (k : ℕ) → k < length xs 
 count_short test xs k within fails =
     let worth : ℕ → ℕ = λ x. cond (test x) 1 0 in
     let nothing : worth (get_or xs k 0) ≡ 0 = rw fails refl in
-    omega (
-      arith,
-      sum_by-take-drop worth xs k,
-      sum_by-drop_more worth xs k 0 within,
-      count_by-le-length test (take k xs),
-      length-take-le k xs (omega arith),
-      count_by-le-length test (drop (k + 1) xs),
-      length-drop (k + 1) xs,
-    )
+    grind (arith, sum_by-take-drop worth xs k, sum_by-drop_more worth xs k 0 within, count_by-le-length, length-take-le, length-drop)
 
 count_none : (test : ℕ → Bool) (n : ℕ) → ((day : ℕ) → 1 ≤ day → day ≤ n → test day ≡ false) → count_by test (range_with_len 1 n) ≡ 0
 count_none test zero never = refl
@@ -82,17 +64,14 @@ weekend_first : (first n : ℕ) (holidays : List ℕ) → 5 ≤ first → first 
 weekend_first first n holidays late early = count_none (belongs first holidays 0 true) n never
   where
     never : (day : ℕ) → 1 ≤ day → day ≤ n → belongs first holidays 0 true day ≡ false
-    never day low high = ⊎_elim
-        (λ here. and_right (eqb (since_monday first day / 7) 0) (working first holidays day) (and_left (ltb (since_monday first day % 7) 5) (not (listed day holidays)) (le-ltb (since_monday first day % 7) 5 (omega (arith, here)))))
-        (λ apart. and_left (eqb (since_monday first day / 7) 0) (working first holidays day) (ne_eqb (since_monday first day / 7) 0 apart))
-        (cases_eq (since_monday first day / 7) 0)
+    never day low high = grind (arith, common_steps)
 
 -- a month that begins before that has no sixth week
 no_sixth : (first n : ℕ) (holidays : List ℕ) → first < 5 → n ≤ 31 → days_of first n holidays 5 true ≡ 0
 no_sixth first n holidays early short = count_none (belongs first holidays 5 true) n never
   where
     never : (day : ℕ) → 1 ≤ day → day ≤ n → belongs first holidays 5 true day ≡ false
-    never day low high = and_left (eqb (since_monday first day / 7) 5) (working first holidays day) (ne_eqb (since_monday first day / 7) 5 (λ same. omega (arith, same)))
+    never day low high = grind (arith, common_steps)
 
 empty_part : (first n : ℕ) (holidays : List ℕ) → first < 7 → n ≤ 31 → (k : ℕ) × (k < 12) × (get_or (by_week first n holidays) k 0 ≡ 0)
 unfolding by_week
@@ -114,8 +93,7 @@ all_few first n holidays early short = take_all 11 (periods first n holidays) (f
 
 week_long_from : (counts : List ℕ) → AllByRecursion (λ count. (1 ≤ count) × (count ≤ 7)) counts → week_long counts ≡ true
 week_long_from [] each = refl
-week_long_from (count ∷ counts) (here, rest) =
-    rw (le-leb 1 count here.0, le-leb count 7 here.1) (week_long_from counts rest)
+week_long_from (count ∷ counts) (here, rest) = grind (arith, common_steps, week_long_from counts rest)
 
 module _ (first n : ℕ) (holidays : List ℕ) (early : first < 7) (some : 1 ≤ n) (short : n ≤ 31) where
   whole : sum (periods first n holidays) ≡ n
@@ -127,7 +105,7 @@ module _ (first n : ℕ) (holidays : List ℕ) (early : first < 7) (some : 1 ≤
 
   both : (counts : List ℕ) → AllByRecursion (λ count. ltb 0 count ≡ true) counts → AllByRecursion (λ count. count ≤ 7) counts → AllByRecursion (λ count. (1 ≤ count) × (count ≤ 7)) counts
   both [] low high = tt
-  both (count ∷ counts) (low, lows) (high, highs) = ((ltb-true 0 count low, high), both counts lows highs)
+  both (count ∷ counts) (low, lows) (high, highs) = ((search (rules, tests), high), both counts lows highs)
 
   seven_most : AllByRecursion (λ count. count ≤ 7) (by_week first n holidays)
   unfolding by_week
@@ -144,9 +122,6 @@ module _ (first n : ℕ) (holidays : List ℕ) (early : first < 7) (some : 1 ≤
   pub is_sound : sound (periods first n holidays) ≡ true
   is_sound =
       let counts = periods first n holidays in
-      rw (
-        le-leb 1 (length counts) kept.some_period,
-        le-leb (length counts) 11 kept.few_periods,
-        le-leb (sum counts) 31 (omega (arith, whole)),
-        week_long_from counts kept.each_period,
-      ) refl
+      let facts = kept in
+      let each = week_long_from counts kept.each_period in
+      grind (arith, common_steps)

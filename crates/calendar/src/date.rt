@@ -5,6 +5,7 @@ ghost use Rattle.calendar.specs.declared.date.TheConstants.{FIRST_YEAR, LAST_YEA
 /// The first year for which a tender is opened. All days are counted from its first day.
 pub(crate) const FIRST_YEAR: u64 = 2000;
 
+/// The last year for which a tender is opened.
 pub(crate) const LAST_YEAR: u64 = 2099;
 
 /// The months of a year.
@@ -56,8 +57,8 @@ impl Month {
         month_lengths(self.year)[self.month as usize - 1]
     }
 
-    #[tactic(auto, using(crate::proofs::Dates::years_most, crate::proofs::Dates::months_most))]
     /// The weekday of the first of the month: Monday is 0.
+    #[tactic(auto, using(crate::proofs::Dates::years_most, crate::proofs::Dates::months_most))]
     pub(crate) fn first_weekday(self) -> u32
         ensures value { result ≡ first_weekday self.year self.month }
         ensures bound { result < 7 }

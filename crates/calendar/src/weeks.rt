@@ -9,7 +9,7 @@ use crate::date::{Month, WEEK};
 const WORKING_DAYS: u32 = 5;
 
 /// A month touches at most six weeks, and each has working days and other days.
-pub(crate) const PARTS: usize = 12;
+const PARTS: usize = 12;
 
 /// The days of a month: the weekday of the first, how many there are, and the holidays among them.
 #[derive(Clone, Copy)]
@@ -63,12 +63,8 @@ impl<'a> MonthDays<'a> {
         ensures value { result ≡ part (since_monday self.now.first day / 7) (working self.now.first self.now.holidays.now day) }
     {
         let week = (self.first + (day - 1)) / WEEK;
-        let part = if self.is_working(day) {
-            2 * week
-        } else {
-            2 * week + 1
-        };
-        part as usize
+        let place = if self.is_working(day) { 0 } else { 1 };
+        (2 * week + place) as usize
     }
 
     /// Whether a day of the month is Monday to Friday and no holiday.
