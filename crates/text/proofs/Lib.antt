@@ -6,5 +6,4 @@ pub mod NumbersBack
 pub mod Numerals
 pub mod Parts
 pub mod Prices
-pub mod Runs
 pub mod RunsBack

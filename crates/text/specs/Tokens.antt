@@ -42,6 +42,10 @@ abbrev pub named_read : Option (Name × Number × Bor (List ℕ)) → Option ((L
 named_read None = None
 named_read (Some (name, number, rest)) = Some ((name.bytes.now, number.value), rest.now)
 
+-- the answers about a byte are whether it is of the kind
+abbrev pub Decides : (kind : ℕ → Bool) → (ℕ → Bool → Type 0) → Type 0
+Decides kind answers = (byte : ℕ) (answer : Bool) → answers byte answer → answer ≡ kind byte
+
 -- a part that is the text as far as the rest, of bytes of one kind alone, and of so many
 pub record Part (kind : ℕ → Bool) (least most : ℕ) (text part rest : List ℕ) : Type 0 where
   pub stands : text ≡ part ++ rest

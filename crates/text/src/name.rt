@@ -5,7 +5,7 @@ ghost use Rattle.text.specs.Tokens.{NamedAt, Part, name_read, named_read};
 
 use crate::ends::field_end;
 use crate::number::{Number, closing_number};
-use crate::run::{Bytes, run};
+use crate::run::run;
 
 /// The most bytes that a name may have.
 pub const NAME_BYTES: usize = 16;
@@ -23,23 +23,12 @@ pub fn is_letter_or_digit(byte: u8) -> bool
     matches!(byte as char, 'A'..='Z' | '0'..='9')
 }
 
-/// What names are made of.
-struct Letters;
-
-impl Bytes for Letters {
-    ghost kind = { letter_or_digit };
-
-    fn has(byte: u8) -> bool {
-        is_letter_or_digit(byte)
-    }
-}
-
 /// The name at the front, and what follows it; none where no letter or digit stands there, or too many.
 pub fn read_name<'a>(text: &'a [u8]) -> Option<(Name<'a>, &'a [u8])>
     ensures read { name_read result ≡ name_of text.now }
     ensures token { IfSome result (λ p. Part letter_or_digit 1 16 text.now p.0.bytes.now p.1.now) }
 {
-    let (bytes, rest) = run::<Letters>(text, NAME_BYTES)?;
+    let (bytes, rest) = run(text, NAME_BYTES, is_letter_or_digit)?;
     Some((Name { bytes }, rest))
 }
 
