@@ -4,7 +4,7 @@ ghost use Rattle.text.specs.Form.{after};
 ghost use Rattle.text.specs.Tokens.{rest_read};
 
 /// What follows a byte that has to stand at the front.
-fn past(byte: u8, text: &[u8]) -> Option<&[u8]>
+pub(crate) fn past(byte: u8, text: &[u8]) -> Option<&[u8]>
     ensures read { rest_read result ≡ after (byte ∷ []) text.now }
     ensures stands { IfSome result (λ rest. text.now ≡ byte ∷ rest.now) }
 {

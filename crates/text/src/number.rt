@@ -27,13 +27,8 @@ pub(crate) fn number_up_to<'a>(most: usize, text: &'a [u8]) -> Option<(Number<'a
     if needless_zero(digits) {
         return None;
     }
-    Some((
-        Number {
-            digits,
-            value: value(digits),
-        },
-        rest,
-    ))
+    let value = value(digits);
+    Some((Number { digits, value }, rest))
 }
 
 /// The whole number at the front, and what follows it.
