@@ -8,6 +8,7 @@ mod name;
 mod number;
 mod price;
 mod run;
+mod token;
 mod values;
 
 pub use digits::is_digit;

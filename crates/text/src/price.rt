@@ -1,11 +1,12 @@
 //! Prices.
-ghost use Rattle.std.specs.Prelude.{IfSome, ◌≡◌, ◌^◌, ◌<◌, ◌∷◌};
+ghost use Rattle.std.specs.Prelude.{IfSome, ◌≡◌, ℕ, ◌^◌, ◌<◌, ◌∷◌};
 ghost use Rattle.text.specs.Form.{decimals as decimals_of, ended, field, price as price_of};
 ghost use Rattle.text.specs.Tokens.{PriceAt, Tail, price_read, value_read};
 
 use crate::digits::{digits, value};
-use crate::ends::{field_end, line_end, past};
+use crate::ends::past;
 use crate::number::number_up_to;
+use crate::token::{Token, closing, field};
 
 /// The most digits that the euros of a price may have.
 pub const EURO_DIGITS: usize = 7;
@@ -44,13 +45,26 @@ pub fn read_price<'a>(text: &'a [u8]) -> Option<(Price<'a>, &'a [u8])>
     Some((Price { bytes, cents }, rest))
 }
 
+impl<'a> Token<'a> for Price<'a> {
+    ghost Value = { ℕ };
+
+    ghost value = { λ price. price.cents };
+
+    ghost reads = { price_of };
+
+    ghost StandsAt = { PriceAt };
+
+    fn read(text: &'a [u8]) -> Option<(Price<'a>, &'a [u8])> {
+        read_price(text)
+    }
+}
+
 /// The price at the front with the semicolon that ends its field, and what follows them.
 pub fn price_field<'a>(text: &'a [u8]) -> Option<(Price<'a>, &'a [u8])>
     ensures read { price_read result ≡ field price_of text.now }
     ensures token { IfSome result (λ p. PriceAt text.now p.0 (59 ∷ p.1.now)) }
 {
-    let (price, rest) = read_price(text)?;
-    Some((price, field_end(rest)?))
+    field(text)
 }
 
 /// The price that is the last field of its line, with the line feed after it, and what follows them.
@@ -58,6 +72,5 @@ pub fn closing_price<'a>(text: &'a [u8]) -> Option<(Price<'a>, &'a [u8])>
     ensures read { price_read result ≡ ended 10 (field price_of) text.now }
     ensures token { IfSome result (λ p. PriceAt text.now p.0 (59 ∷ 10 ∷ p.1.now)) }
 {
-    let (price, rest) = price_field(text)?;
-    Some((price, line_end(rest)?))
+    closing(text)
 }
