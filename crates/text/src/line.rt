@@ -11,7 +11,7 @@ use crate::price::{Price, price_field};
 use crate::values::{MOST_FIELDS, Values};
 
 /// A token that means a number.
-trait Amount<'a>: Sized {
+trait Amount<'a> {
     ghost reads: { Reads ℕ };
 
     ghost limit: { ℕ };
@@ -54,9 +54,7 @@ fn values<'a, A: Amount<'a>>(text: &'a [u8], count: usize) -> Option<(Values, &'
     let mut all = [0; MOST_FIELDS];
     let mut rest = text;
     for i in 0..count {
-        let (value, after) = A::field(rest)?;
-        all[i] = value;
-        rest = after;
+        (all[i], rest) = A::field(rest)?;
     }
     Some((Values { all, count }, rest))
 }
