@@ -18,13 +18,7 @@ impl Values {
     pub fn as_slice(&self) -> &[u64]
         ensures { result.now ≡ values_of self.now }
     {
-        let all: &[u64] = &self.all;
-        let count = self.count;
-        if count < all.len() {
-            &all[0..count]
-        } else {
-            all
-        }
+        self.all.get(..self.count).unwrap_or(&self.all)
     }
 
     /// How many there are.
@@ -38,17 +32,6 @@ impl Values {
     pub fn get(&self, i: usize) -> Option<u64>
         ensures { result ≡ slice_get (values_of self.now) i }
     {
-        at(self.as_slice(), i)
-    }
-}
-
-/// The value of a slice at a place, if it has one there.
-fn at(values: &[u64], i: usize) -> Option<u64>
-    ensures { result ≡ slice_get values.now i }
-{
-    if i < values.len() {
-        Some(values[i])
-    } else {
-        None
+        self.as_slice().get(i).copied()
     }
 }
