@@ -1,7 +1,7 @@
--- Fields that are read one after another into the places of a list.
-use Rattle.std.proofs.Common.{◌≡◌, ℕ, suc, ◌+◌, ◌-◌, ◌<◌, ◌≤◌, List, [], ◌∷◌, ◌++◌, length, take, set, Some, None, Option, sym, refl, ap, ◌∙◌, arith}
+-- Fields that are read one after another.
+use Rattle.std.proofs.Common.{◌≡◌, ℕ, suc, ◌+◌, ◌-◌, ◌<◌, List, [], ◌∷◌, ◌++◌, length, Some, None, Option, sym, refl, ap, arith}
 use Rattle.std.proofs.ByRecursion.{All-push}
-use Rattle.std.proofs.lemmas.List.{append_assoc, length-set, take_more_set}
+use Rattle.std.proofs.lemmas.List.{append_assoc, length-append}
 use Rattle.std.specs.List.{AllByRecursion}
 use Rattle.text.specs.Form.{◌>>=◌, Reads, field, fields}
 
@@ -21,19 +21,17 @@ one_more reads n v text rest e = rw (← e) (made (fields reads n rest))
     made None = refl
     made (Some p) = refl
 
--- of `count` fields of a text, those before i stand in `all`, and the rest follows
-pub record SoFar (reads : Reads ℕ) (below count i : ℕ) (text all rest : List ℕ) : Type 0 where
-  pub room : length all ≡ 11
-  pub read : fields reads count text ≡ then_read (take i all) (fields reads (count - i) rest)
-  pub small : AllByRecursion (λ v. v < below) (take i all)
+-- of `count` fields of a text, the first `done` have the values xs, and the rest follows
+pub record SoFar (reads : Reads ℕ) (below count done : ℕ) (text xs rest : List ℕ) : Type 0 where
+  pub long : length xs ≡ done
+  pub read : fields reads count text ≡ then_read xs (fields reads (count - done) rest)
+  pub small : AllByRecursion (λ v. v < below) xs
 
-pub read_more : {reads : Reads ℕ} {below count i v : ℕ} {text all rest after : List ℕ} → SoFar reads below count i text all rest → count ≤ 11 → i < count → Some (v, after) ≡ field reads rest → v < below → SoFar reads below count (i + 1) text (set all i v) after
-read_more {reads} {below} {count} {i} {v} {text} {all} {rest} {after} so_far few in' e small =
-    let stored = take_more_set all i v (omega (arith, so_far.room)) in
-    let left : count - i ≡ suc (count - (i + 1)) = omega arith in
-    let more = rw (left, one_more reads (count - (i + 1)) v rest after e, then_twice (take i all) v, ← stored) at so_far.read in
+pub read_more : {reads : Reads ℕ} {below count done v : ℕ} {text xs rest after : List ℕ} → SoFar reads below count done text xs rest → done < count → Some (v, after) ≡ field reads rest → v < below → SoFar reads below count (done + 1) text (xs ++ v ∷ []) after
+read_more {reads} {below} {count} {done} {v} {text} {xs} {rest} {after} so_far in' e small =
+    let left : count - done ≡ suc (count - (done + 1)) = omega arith in
     record {
-      room = length-set all i v ∙ so_far.room;
-      read = more;
-      small = rw stored (All-push (λ x. x < below) (take i all) v so_far.small small);
+      long = omega (arith, so_far.long, length-append xs (v ∷ []));
+      read = rw (left, one_more reads (count - (done + 1)) v rest after e, then_twice xs v) at so_far.read;
+      small = All-push (λ x. x < below) xs v so_far.small small;
     }

@@ -8,7 +8,13 @@ ghost use Rattle.text.specs.Tokens.{value_read};
 use crate::ends::line_end;
 use crate::number::{Number, number_field};
 use crate::price::{Price, price_field};
-use crate::values::{MOST_FIELDS, Values};
+use short_list::ShortList;
+
+/// The most fields that a line of numbers or prices may be asked for: no line has more than a month has periods.
+pub const MOST_FIELDS: usize = 11;
+
+/// The values of a line's fields, in their order.
+pub type Values = ShortList<u64, MOST_FIELDS>;
 
 /// A token that means a number.
 trait Amount<'a> {
@@ -51,12 +57,14 @@ fn values<'a, A: Amount<'a>>(text: &'a [u8], count: usize) -> Option<(Values, &'
     ensures small { IfSome result (λ p. AllByRecursion (λ v. v < A.limit) (values_of p.0)) }
     ensures long { IfSome result (λ p. length (values_of p.0) ≡ count) }
 {
-    let mut all = [0; MOST_FIELDS];
+    let mut values = Values::new();
     let mut rest = text;
-    for i in 0..count {
-        (all[i], rest) = A::field(rest)?;
+    for _ in 0..count {
+        let (value, after) = A::field(rest)?;
+        values.push(value);
+        rest = after;
     }
-    Some((Values { all, count }, rest))
+    Some((values, rest))
 }
 
 /// A line of `count` fields, and what follows its line feed; none also where more are asked for than a line may have.
