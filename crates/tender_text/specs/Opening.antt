@@ -4,8 +4,7 @@ use Rattle.std.specs.Borrow.{Bor}
 use Rattle.std.specs.Option.{ok_or}
 use Rattle.text.specs.Form.{whole, line_of}
 use Rattle.text.specs.Judging.{◌>>=◌, ◌>>◌, must}
-use Rattle.text.specs.Lines.{values_of}
-use Rattle.text.specs.declared.values.Values.{Values}
+use Rattle.text.specs.Lines.{Values, values_of}
 use Rattle.calendar.specs.Month.{day_counts}
 use Rattle.calendar.specs.Opening.{announced, opened}
 use Rattle.calendar.specs.declared.fault.CalendarFault.{CalendarFault}

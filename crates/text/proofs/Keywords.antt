@@ -31,18 +31,3 @@ chain (k ∷ ks) ls (b ∷ bs) rest e = go (eqb b k) e (chain ks ls bs rest)
     go : (t : Bool) → Some rest ≡ cond t (after ks bs) None → (Some rest ≡ after ks bs → after (ks ++ ls) bs ≡ after ls rest) → cond t (after (ks ++ ls) bs) None ≡ after ls rest
     go true h again = again h
     go false h again = let z : ◌≡◌ {A = ℕ} 0 1 = cc in absurd (omega arith)
-
--- the same, where the first part is not there
-pub chain_none : (first second text : List ℕ) → None ≡ after first text → None ≡ after (first ++ second) text
-chain_none [] ls bs e = let z : ◌≡◌ {A = ℕ} 0 1 = cc in absurd (omega arith)
-chain_none (k ∷ ks) ls [] e = refl
-chain_none (k ∷ ks) ls (b ∷ bs) e = go (eqb b k) e (chain_none ks ls bs)
-  where
-    go : (t : Bool) → None ≡ cond t (after ks bs) None → (None ≡ after ks bs → None ≡ after (ks ++ ls) bs) → None ≡ cond t (after (ks ++ ls) bs) None
-    go true h again = again h
-    go false h again = refl
-
--- the first byte, and then the rest
-pub first_and_rest : (byte : ℕ) (text : List ℕ) → 1 ≤ length text → get_or text 0 0 ≡ byte → text ≡ byte ∷ take (length text - 1) (drop 1 text)
-first_and_rest byte [] le e = absurd (omega arith)
-first_and_rest byte (b ∷ bs) le e = rw (take_rest (b ∷ bs) 1, e) refl

@@ -3,8 +3,6 @@ pub mod FieldsBack
 pub mod FormKeeps
 pub mod Keywords
 pub mod NumbersBack
-pub mod Numerals
 pub mod Parts
 pub mod Prices
-pub mod Runs
 pub mod RunsBack

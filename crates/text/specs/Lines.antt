@@ -1,12 +1,17 @@
 -- Lines of fields of one kind, as they are read. Assumes nothing.
-use Rattle.std.specs.Prelude.{ℕ, cond, List, take, Some, None, Option, nat_le}
+use Rattle.std.specs.Prelude.{ℕ, cond, List, Some, None, Option, nat_le}
 use Rattle.std.specs.Borrow.{Bor}
-use Rattle.text.specs.declared.values.Values.{Values}
+use Rattle.short_list.specs.ShortList.{items}
+use Rattle.short_list.specs.declared.list.ShortList.{ShortList}
 use Rattle.text.specs.Form.{Reads, whole, price, line_of}
 
--- the values of a line, in order
+-- the values of a line, of which there are at most 11
+abbrev pub Values : Type 0
+Values = ShortList ℕ 11
+
+-- the same, in order
 abbrev pub values_of : Values → List ℕ
-values_of v = take v.count v.all
+values_of values = items values
 
 -- the values of a line, and what follows it
 abbrev pub values_read : Option (Values × Bor (List ℕ)) → Option (List ℕ × List ℕ)

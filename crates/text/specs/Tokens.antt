@@ -17,30 +17,35 @@ abbrev pub part_read : Option (Bor (List ℕ) × Bor (List ℕ)) → Option (Lis
 part_read None = None
 part_read (Some (part, rest)) = Some (part.now, rest.now)
 
+-- what a token means, and what follows it
+abbrev pub token_read : {T X : Type 0} → (T → X) → Option (T × Bor (List ℕ)) → Option (X × List ℕ)
+token_read meaning None = None
+token_read meaning (Some (token, rest)) = Some (meaning token, rest.now)
+
 -- a value, and what follows what says it
 abbrev pub value_read : Option (ℕ × Bor (List ℕ)) → Option (ℕ × List ℕ)
-value_read None = None
-value_read (Some (value, rest)) = Some (value, rest.now)
+value_read = token_read (λ value. value)
 
 -- a whole number's value, and what follows it
 abbrev pub number_read : Option (Number × Bor (List ℕ)) → Option (ℕ × List ℕ)
-number_read None = None
-number_read (Some (number, rest)) = Some (number.value, rest.now)
+number_read = token_read (λ number. number.value)
 
 -- a price in cents, and what follows it
 abbrev pub price_read : Option (Price × Bor (List ℕ)) → Option (ℕ × List ℕ)
-price_read None = None
-price_read (Some (price, rest)) = Some (price.cents, rest.now)
+price_read = token_read (λ price. price.cents)
 
 -- a name's bytes, and what follows it
 abbrev pub name_read : Option (Name × Bor (List ℕ)) → Option (List ℕ × List ℕ)
-name_read None = None
-name_read (Some (name, rest)) = Some (name.bytes.now, rest.now)
+name_read = token_read (λ name. name.bytes.now)
 
 -- a name with a number, and what follows their line
 abbrev pub named_read : Option (Name × Number × Bor (List ℕ)) → Option ((List ℕ × ℕ) × List ℕ)
 named_read None = None
 named_read (Some (name, number, rest)) = Some ((name.bytes.now, number.value), rest.now)
+
+-- the answers about a byte are whether it is of the kind
+abbrev pub Decides : (kind : ℕ → Bool) → (ℕ → Bool → Type 0) → Type 0
+Decides kind answers = (byte : ℕ) (answer : Bool) → answers byte answer → answer ≡ kind byte
 
 -- a part that is the text as far as the rest, of bytes of one kind alone, and of so many
 pub record Part (kind : ℕ → Bool) (least most : ℕ) (text part rest : List ℕ) : Type 0 where

@@ -1,10 +1,10 @@
 //! Digits at the front of a text, and the number that they write.
-ghost use Rattle.std.specs.Prelude.{IfSome, ◌≡◌, ◌≤◌, true, length};
+ghost use Rattle.std.specs.Prelude.{IfSome, ◌≡◌, ◌^◌, ◌<◌, ◌≤◌, true, length};
 ghost use Rattle.std.specs.List.{AllByRecursion};
 ghost use Rattle.text.specs.Form.{digit, needless_zero, run as run_of, value as value_of_lem};
 ghost use Rattle.text.specs.Tokens.{Part, part_read};
 
-use crate::run::{Bytes, run};
+use crate::run::run;
 
 /// Whether a byte is one of the digits 0 to 9.
 pub fn is_digit(byte: u8) -> bool
@@ -13,23 +13,12 @@ pub fn is_digit(byte: u8) -> bool
     matches!(byte as char, '0'..='9')
 }
 
-/// The digits 0 to 9.
-struct Decimal;
-
-impl Bytes for Decimal {
-    ghost kind = { digit };
-
-    fn has(byte: u8) -> bool {
-        is_digit(byte)
-    }
-}
-
 /// The digits at the front, if they are at least one and not more than `most`, and what follows them.
 pub(crate) fn digits<'a>(text: &'a [u8], most: usize) -> Option<(&'a [u8], &'a [u8])>
     ensures read { part_read result ≡ run_of digit 1 most text.now }
     ensures part { IfSome result (λ p. Part digit 1 most text.now p.0.now p.1.now) }
 {
-    run::<Decimal>(text, most)
+    run(text, most, is_digit)
 }
 
 /// Whether digits begin with a zero that they could do without.
@@ -43,11 +32,12 @@ pub(crate) fn needless_zero(digits: &[u8]) -> bool
 pub(crate) fn value(digits: &[u8]) -> u64
     requires digits { AllByRecursion (λ b. digit b ≡ true) digits.now }
     requires few { length digits.now ≤ 10 }
-    ensures { result ≡ value_of_lem digits.now }
+    ensures is { result ≡ value_of_lem digits.now }
+    ensures small { result < 10 ^ length digits.now }
 {
     let mut value = 0;
-    for byte in digits {
-        value = value * 10 + (*byte - b'0') as u64;
+    for digit in digits {
+        value = value * 10 + u64::from(*digit - b'0');
     }
     value
 }

@@ -8,12 +8,11 @@ mod name;
 mod number;
 mod price;
 mod run;
-mod values;
+mod token;
 
 pub use digits::is_digit;
 pub use ends::{field_end, line_end};
-pub use line::{number_line, price_line};
+pub use line::{MOST_FIELDS, Values, number_line, price_line};
 pub use name::{NAME_BYTES, Name, is_letter_or_digit, name_field, named_line, read_name};
 pub use number::{Number, WHOLE_DIGITS, closing_number, number_field, whole};
 pub use price::{EURO_DIGITS, Price, closing_price, price_field, read_price};
-pub use values::{MOST_FIELDS, Values};

@@ -1,11 +1,11 @@
 //! Names: of who offers, as they stand in a text.
-ghost use Rattle.std.specs.Prelude.{IfSome, ◌≡◌, ◌∷◌};
+ghost use Rattle.std.specs.Prelude.{IfSome, ◌≡◌, ℕ, List, ◌∷◌};
 ghost use Rattle.text.specs.Form.{field, letter_or_digit, name as name_of, named};
 ghost use Rattle.text.specs.Tokens.{NamedAt, Part, name_read, named_read};
 
-use crate::ends::field_end;
 use crate::number::{Number, closing_number};
-use crate::run::{Bytes, run};
+use crate::run::run;
+use crate::token::{Token, field};
 
 /// The most bytes that a name may have.
 pub const NAME_BYTES: usize = 16;
@@ -23,24 +23,27 @@ pub fn is_letter_or_digit(byte: u8) -> bool
     matches!(byte as char, 'A'..='Z' | '0'..='9')
 }
 
-/// What names are made of.
-struct Letters;
-
-impl Bytes for Letters {
-    ghost kind = { letter_or_digit };
-
-    fn has(byte: u8) -> bool {
-        is_letter_or_digit(byte)
-    }
-}
-
 /// The name at the front, and what follows it; none where no letter or digit stands there, or too many.
 pub fn read_name<'a>(text: &'a [u8]) -> Option<(Name<'a>, &'a [u8])>
     ensures read { name_read result ≡ name_of text.now }
     ensures token { IfSome result (λ p. Part letter_or_digit 1 16 text.now p.0.bytes.now p.1.now) }
 {
-    let (bytes, rest) = run::<Letters>(text, NAME_BYTES)?;
+    let (bytes, rest) = run(text, NAME_BYTES, is_letter_or_digit)?;
     Some((Name { bytes }, rest))
+}
+
+impl<'a> Token<'a> for Name<'a> {
+    ghost Value = { List ℕ };
+
+    ghost value = { λ name. name.bytes.now };
+
+    ghost reads = { name_of };
+
+    ghost StandsAt = { λ text name rest. Part letter_or_digit 1 16 text name.bytes.now rest };
+
+    fn read(text: &'a [u8]) -> Option<(Name<'a>, &'a [u8])> {
+        read_name(text)
+    }
 }
 
 /// The name at the front with the semicolon that ends its field, and what follows them.
@@ -48,8 +51,7 @@ pub fn name_field<'a>(text: &'a [u8]) -> Option<(Name<'a>, &'a [u8])>
     ensures read { name_read result ≡ field name_of text.now }
     ensures token { IfSome result (λ p. Part letter_or_digit 1 16 text.now p.0.bytes.now (59 ∷ p.1.now)) }
 {
-    let (name, rest) = read_name(text)?;
-    Some((name, field_end(rest)?))
+    field(text)
 }
 
 /// A line of a name and a number, and what follows it.

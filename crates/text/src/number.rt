@@ -1,10 +1,10 @@
 //! Whole numbers.
-ghost use Rattle.std.specs.Prelude.{IfSome, ◌≡◌, ◌≤◌, ◌∷◌};
+ghost use Rattle.std.specs.Prelude.{IfSome, ◌≡◌, ℕ, ◌≤◌, ◌∷◌};
 ghost use Rattle.text.specs.Form.{ended, field, number_up_to, whole as whole_of};
 ghost use Rattle.text.specs.Tokens.{NumberAt, number_read};
 
 use crate::digits::{digits, needless_zero, value};
-use crate::ends::{field_end, line_end};
+use crate::token::{Token, closing, field};
 
 /// The most digits that a whole number may have.
 pub const WHOLE_DIGITS: usize = 10;
@@ -27,13 +27,8 @@ pub(crate) fn number_up_to<'a>(most: usize, text: &'a [u8]) -> Option<(Number<'a
     if needless_zero(digits) {
         return None;
     }
-    Some((
-        Number {
-            digits,
-            value: value(digits),
-        },
-        rest,
-    ))
+    let value = value(digits);
+    Some((Number { digits, value }, rest))
 }
 
 /// The whole number at the front, and what follows it.
@@ -44,13 +39,26 @@ pub fn whole<'a>(text: &'a [u8]) -> Option<(Number<'a>, &'a [u8])>
     number_up_to(WHOLE_DIGITS, text)
 }
 
+impl<'a> Token<'a> for Number<'a> {
+    ghost Value = { ℕ };
+
+    ghost value = { λ number. number.value };
+
+    ghost reads = { whole_of };
+
+    ghost StandsAt = { NumberAt 10 };
+
+    fn read(text: &'a [u8]) -> Option<(Number<'a>, &'a [u8])> {
+        whole(text)
+    }
+}
+
 /// The whole number at the front with the semicolon that ends its field, and what follows them.
 pub fn number_field<'a>(text: &'a [u8]) -> Option<(Number<'a>, &'a [u8])>
     ensures read { number_read result ≡ field whole_of text.now }
     ensures token { IfSome result (λ p. NumberAt 10 text.now p.0 (59 ∷ p.1.now)) }
 {
-    let (number, rest) = whole(text)?;
-    Some((number, field_end(rest)?))
+    field(text)
 }
 
 /// The whole number that is the last field of its line, with the line feed after it, and what follows them.
@@ -58,6 +66,5 @@ pub fn closing_number<'a>(text: &'a [u8]) -> Option<(Number<'a>, &'a [u8])>
     ensures read { number_read result ≡ ended 10 (field whole_of) text.now }
     ensures token { IfSome result (λ p. NumberAt 10 text.now p.0 (59 ∷ 10 ∷ p.1.now)) }
 {
-    let (number, rest) = number_field(text)?;
-    Some((number, line_end(rest)?))
+    closing(text)
 }

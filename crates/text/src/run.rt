@@ -2,41 +2,34 @@
 ghost use Rattle.std.specs.Prelude.{IfSome, ◌≡◌, ℕ, ◌≤◌, Bool, length};
 ghost use Rattle.std.specs.List.{prefix_len as leading_of};
 ghost use Rattle.text.specs.Form.{run as run_of};
-ghost use Rattle.text.specs.Tokens.{Part, part_read};
-
-/// A kind of byte.
-pub(crate) trait Bytes {
-    ghost kind: { ℕ → Bool };
-
-    /// Whether a byte is of this kind.
-    fn has(byte: u8) -> bool
-        ensures { result ≡ kind byte };
-}
+ghost use Rattle.text.specs.Tokens.{Decides, Part, part_read};
 
 /// How many bytes of a kind stand at the front.
-fn leading<B: Bytes>(text: &[u8]) -> usize
-    ensures count { result ≡ leading_of B.kind text.now }
+fn leading<F: Fn(u8) -> bool>(text: &[u8], is_kind: F) -> usize
+    ghost kind: { ℕ → Bool }
+    requires callable { F.IsAlwaysCallable is_kind }
+    requires decides { Decides kind (F.post is_kind) }
+    ensures count { result ≡ leading_of kind text.now }
     ensures within { result ≤ length text.now }
 {
-    for (n, byte) in text.iter().enumerate() {
-        if !B::has(*byte) {
-            return n;
-        }
-    }
-    text.len()
+    text.iter().take_while(|byte| is_kind(**byte)).count()
 }
 
 /// The bytes of a kind at the front, if they are at least one and not more than `most`, and what follows them.
-pub(crate) fn run<'a, B: Bytes>(text: &'a [u8], most: usize) -> Option<(&'a [u8], &'a [u8])>
-    ensures read { part_read result ≡ run_of B.kind 1 most text.now }
-    ensures part { IfSome result (λ p. Part B.kind 1 most text.now p.0.now p.1.now) }
+pub(crate) fn run<'a, F: Fn(u8) -> bool>(
+    text: &'a [u8],
+    most: usize,
+    is_kind: F,
+) -> Option<(&'a [u8], &'a [u8])>
+    ghost kind: { ℕ → Bool }
+    requires callable { F.IsAlwaysCallable is_kind }
+    requires decides { Decides kind (F.post is_kind) }
+    ensures read { part_read result ≡ run_of kind 1 most text.now }
+    ensures part { IfSome result (λ p. Part kind 1 most text.now p.0.now p.1.now) }
 {
-    let n = leading::<B>(text);
-    if n < 1 {
+    let n = leading(text, is_kind);
+    if n == 0 || n > most {
         return None;
     }
-    if n > most {
-        return None;
-    }
-    Some((&text[0..n], &text[n..]))
+    Some(text.split_at(n))
 }

@@ -8,7 +8,7 @@ use Rattle.sheet.proofs.read.read_lines.Goals as goal
 pub read_rows-requires : goal.read_rows-requires
 read_rows-requires c =
     let fits = c.in_ok-priced.ensures.fits in
-    let same = c.as_slice.ensures in
+    let same = c.as_slice.ensures.values in
     let periods = values_of c.in_ok-priced.priced in
     record {
       ranges = search rules;

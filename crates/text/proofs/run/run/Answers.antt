@@ -1,11 +1,14 @@
-use Rattle.std.proofs.Common.{arith}
-use Rattle.text.proofs.Runs.{part_is, run_is}
+use Rattle.std.proofs.Common.{◌≡◌, take, arith}
+use Rattle.std.specs.List.{prefix_len}
+use Rattle.text.proofs.FormKeeps.{leading_take}
 use Rattle.text.proofs.run.run.Goals as goal
 
-pub returns : goal.returns
-returns g c =
-    let count = c.leading-n.ensures.count in
+pub returns-clause-part : goal.returns-clause-part
+returns-clause-part g c =
+    let front : c.split_at.result.0.now ≡ take (prefix_len g.kind c.args.text.now) c.args.text.now = cc in
     record {
-      read = run_is g.B.Bytes.kind 1 c.args.most c.leading-n.result c.args.text.now count (omega arith) (omega arith);
-      part = part_is g.B.Bytes.kind 1 c.args.most c.leading-n.result c.args.text.now count (omega arith) (omega arith);
+      stands = c.split_at.ensures.by_index.0;
+      all = rw front (leading_take g.kind c.args.text.now);
+      low = omega arith;
+      high = omega arith;
     }
