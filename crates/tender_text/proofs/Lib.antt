@@ -1,4 +1,2 @@
-mod Highs
-mod Numbers
 mod Rows
 mod Tenders

@@ -3,12 +3,15 @@ use Rattle.std.specs.Prelude.{◌≡◌, ℕ, List, Ok, Err, Result}
 use Rattle.std.specs.Borrow.{Bor}
 use Rattle.text.specs.Judging.{◌>>=◌}
 use Rattle.book.specs.Register.{days_of, roll_of}
-use Rattle.book.specs.declared.register.Register.{Register}
+use Rattle.book.specs.declared.register.Register.{Register as Roll}
+use Rattle.book.specs.declared.unread.DepositFault.{DepositFault}
+use Rattle.book.specs.declared.unread.DepositFault.TheVariants.{Memory as NoMemory, Register as ByRegister}
 use Rattle.tender_text.specs.Needs.{need_line}
 use Rattle.tender_text.specs.Report.{Tender}
 use Rattle.tender_text.specs.declared.answer.AnswerFault.{AnswerFault}
 use Rattle.tender_text.specs.declared.answer.AnswerFault.TheVariants.{Refused, Memory}
 use Rattle.tender_text.specs.declared.fault.TenderFault.{TenderFault}
+use Rattle.tender_text.specs.declared.fault.TenderFault.TheVariants.{Register}
 
 -- what follows the lines of the needs
 abbrev pub after_needs : (T : ℕ) → List ℕ → Result (List ℕ) TenderFault
@@ -21,8 +24,13 @@ abbrev pub rest_read : Result (Bor (List ℕ)) TenderFault → Result (List ℕ)
 rest_read (Ok rest) = Ok rest.now
 rest_read (Err fault) = Err fault
 
+-- a refusal of the sheets is the tender's, unless there is no memory
+abbrev pub of_deposit : DepositFault → AnswerFault
+of_deposit (ByRegister fault) = Refused (Register fault)
+of_deposit NoMemory = Memory
+
 -- a register with the tender's month and its offers, or the tender's refusal, unless there is no memory
-abbrev pub Answered : Result Tender TenderFault → Result Register AnswerFault → Type 0
+abbrev pub Answered : Result Tender TenderFault → Result Roll AnswerFault → Type 0
 Answered expected (Ok register) = (tender : Tender) × (expected ≡ Ok tender) × (days_of register ≡ tender.days) × ((roll_of register).offers ≡ tender.offers)
 Answered expected (Err (Refused fault)) = expected ≡ Err fault
 Answered expected (Err Memory) = Unit {0}

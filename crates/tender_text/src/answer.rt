@@ -1,13 +1,16 @@
 //! The tender that a text tells of, and what is printed for it.
-ghost use Rattle.std.specs.Prelude.{◌≡◌, ◌≤◌, IfOk};
-ghost use Rattle.tender_text.specs.Answer.{Answered, after_needs, rest_read};
+ghost use Rattle.std.specs.Prelude.{◌≡◌, length, IfOk};
+ghost use Rattle.calendar.specs.Month.{day_counts};
+ghost use Rattle.tender_text.specs.Answer.{Answered, after_needs, of_deposit, rest_read};
 ghost use Rattle.tender_text.specs.Report.{answered, report as report_of, tender_of};
+ghost use Rattle.tender_text.specs.declared.answer.AnswerFault.TheVariants.{Refused};
 
 use crate::fault::TenderFault;
 use crate::needs::need_line;
 use crate::opening::FirstLines;
 use crate::printing::{refusal, tables};
 use book::{DepositFault, Register};
+use calendar::Calendar;
 use std::alloc::{AllocError, Global};
 
 /// A tender's text has at most so many bytes.
@@ -25,13 +28,33 @@ pub enum AnswerFault {
     Memory,
 }
 
-/// What follows the lines of the needs, in a month of so many periods.
-fn after_needs<'a>(periods: usize, text: &'a [u8]) -> Result<&'a [u8], TenderFault>
-    requires { periods ≤ 11 }
-    ensures { rest_read result ≡ after_needs periods text.now }
+/// A tender's refusal is passed on whole.
+impl From<TenderFault> for AnswerFault {
+    ghost from_gives = { λ fault r. r ≡ Refused fault };
+
+    fn from(fault: TenderFault) -> AnswerFault {
+        AnswerFault::Refused(fault)
+    }
+}
+
+/// A register's refusal is passed on whole, as the tender's.
+impl From<DepositFault> for AnswerFault {
+    ghost from_gives = { λ fault r. r ≡ of_deposit fault };
+
+    fn from(fault: DepositFault) -> AnswerFault {
+        match fault {
+            DepositFault::Register(fault) => AnswerFault::Refused(TenderFault::from(fault)),
+            DepositFault::Memory => AnswerFault::Memory,
+        }
+    }
+}
+
+/// What follows the lines of the needs, in a month of that calendar.
+fn after_needs<'a>(calendar: &Calendar, text: &'a [u8]) -> Result<&'a [u8], TenderFault>
+    ensures { rest_read result ≡ after_needs (length (day_counts calendar.now)) text.now }
 {
-    let (_, rest) = need_line(3, periods, text)?;
-    let (_, sheets) = need_line(4, periods, rest)?;
+    let (_, rest) = need_line(3, calendar, text)?;
+    let (_, sheets) = need_line(4, calendar, rest)?;
     Ok(sheets)
 }
 
@@ -39,25 +62,10 @@ fn after_needs<'a>(periods: usize, text: &'a [u8]) -> Result<&'a [u8], TenderFau
 fn read_all(heap: Global, input: &[u8]) -> Result<Register, AnswerFault>
     ensures { Answered (tender_of input.now) result }
 {
-    let first = match FirstLines::read(input) {
-        Ok(first) => first,
-        Err(fault) => return Err(AnswerFault::Refused(fault)),
-    };
-    let calendar = match first.open() {
-        Ok(calendar) => calendar,
-        Err(fault) => return Err(AnswerFault::Refused(fault)),
-    };
-    let sheets = match after_needs(calendar.periods(), first.rest) {
-        Ok(sheets) => sheets,
-        Err(fault) => return Err(AnswerFault::Refused(fault)),
-    };
-    match Register::of_deposit(heap, calendar, LINES_BEFORE, sheets) {
-        Ok(register) => Ok(register),
-        Err(DepositFault::Register(fault)) => Err(AnswerFault::Refused(TenderFault::Register(
-            fault,
-        ))),
-        Err(DepositFault::Memory) => Err(AnswerFault::Memory),
-    }
+    let first = FirstLines::read(input)?;
+    let calendar = first.open()?;
+    let sheets = after_needs(&calendar, first.rest)?;
+    Ok(Register::of_deposit(heap, calendar, LINES_BEFORE, sheets)?)
 }
 
 /// The register of the tender that a text tells of: its month and its offers.

@@ -20,6 +20,7 @@ pub struct FirstLines<'a> {
 }
 
 /// The numbers of a line, which is counted from the text's first, and what follows it.
+#[tactic(auto, unfolding(crate::specs::Opening::numbers))]
 pub(crate) fn numbers<'a>(
     line: u32,
     count: usize,
@@ -29,10 +30,7 @@ pub(crate) fn numbers<'a>(
     ensures value { numbers_read result ≡ numbers_of line count text.now }
     ensures long { IfOk result (λ read. length (values_of read.0) ≡ count) }
 {
-    match number_line(text, count) {
-        Some(read) => Ok(read),
-        None => Err(TenderFault::Form(line)),
-    }
+    number_line(text, count).ok_or(TenderFault::Form(line))
 }
 
 impl<'a> FirstLines<'a> {
