@@ -1,16 +1,14 @@
 //! The tender that a text tells of, and what is printed for it.
-ghost use Rattle.std.specs.Prelude.{◌≡◌, length, IfOk};
-ghost use Rattle.calendar.specs.Month.{day_counts};
-ghost use Rattle.tender_text.specs.Answer.{Answered, after_needs, of_deposit, rest_read};
+ghost use Rattle.std.specs.Prelude.{◌≡◌, IfOk};
+ghost use Rattle.tender_text.specs.Answer.{Answered, of_deposit};
 ghost use Rattle.tender_text.specs.Report.{answered, report as report_of, tender_of};
 ghost use Rattle.tender_text.specs.declared.answer.AnswerFault.TheVariants.{Refused};
 
 use crate::fault::TenderFault;
 use crate::needs::need_line;
 use crate::opening::FirstLines;
-use crate::printing::{refusal, tables};
+use crate::printing::tables;
 use book::{DepositFault, Register};
-use calendar::Calendar;
 use std::alloc::{AllocError, Global};
 
 /// A tender's text has at most so many bytes.
@@ -49,22 +47,14 @@ impl From<DepositFault> for AnswerFault {
     }
 }
 
-/// What follows the lines of the needs, in a month of that calendar.
-fn after_needs<'a>(calendar: &Calendar, text: &'a [u8]) -> Result<&'a [u8], TenderFault>
-    ensures { rest_read result ≡ after_needs (length (day_counts calendar.now)) text.now }
-{
-    let (_, rest) = need_line(3, calendar, text)?;
-    let (_, sheets) = need_line(4, calendar, rest)?;
-    Ok(sheets)
-}
-
 /// The register of the tender that a text of no matter what length tells of.
 fn read_all(heap: Global, input: &[u8]) -> Result<Register, AnswerFault>
     ensures { Answered (tender_of input.now) result }
 {
     let first = FirstLines::read(input)?;
     let calendar = first.open()?;
-    let sheets = after_needs(&calendar, first.rest)?;
+    let (_, rest) = need_line(3, &calendar, first.rest)?;
+    let (_, sheets) = need_line(4, &calendar, rest)?;
     Ok(Register::of_deposit(heap, calendar, LINES_BEFORE, sheets)?)
 }
 
@@ -84,10 +74,7 @@ pub fn report(heap: Global, input: &[u8]) -> Result<Vec<u8>, AllocError>
 {
     match read_tender(heap, input) {
         Ok(register) => tables(heap, register.calendar(), register.standing()),
-        Err(AnswerFault::Refused(fault)) => {
-            let line = refusal(heap, fault)?;
-            Vec::from_slice(heap, line.as_bytes())
-        }
+        Err(AnswerFault::Refused(fault)) => Ok(format!(in heap; "{fault}\n")?.into_bytes()),
         Err(AnswerFault::Memory) => Err(AllocError),
     }
 }

@@ -20,7 +20,6 @@ pub struct FirstLines<'a> {
 }
 
 /// The numbers of a line, which is counted from the text's first, and what follows it.
-#[tactic(auto, unfolding(crate::specs::Opening::numbers))]
 pub(crate) fn numbers<'a>(
     line: u32,
     count: usize,
