@@ -1,7 +1,7 @@
 //! The tender that a text tells of, and what is printed for it.
 ghost use Rattle.std.specs.Prelude.{◌≡◌, IfOk};
 ghost use Rattle.tender_text.specs.Answer.{Answered, of_deposit};
-ghost use Rattle.tender_text.specs.Report.{answered, report as report_of, tender_of};
+ghost use Rattle.tender_text.specs.Report.{answered, report as report_of};
 ghost use Rattle.tender_text.specs.declared.answer.AnswerFault.TheVariants.{Refused};
 
 use crate::fault::TenderFault;
@@ -47,17 +47,6 @@ impl From<DepositFault> for AnswerFault {
     }
 }
 
-/// The register of the tender that a text of no matter what length tells of.
-fn read_all(heap: Global, input: &[u8]) -> Result<Register, AnswerFault>
-    ensures { Answered (tender_of input.now) result }
-{
-    let first = FirstLines::read(input)?;
-    let calendar = first.open()?;
-    let (_, rest) = need_line(3, &calendar, first.rest)?;
-    let (_, sheets) = need_line(4, &calendar, rest)?;
-    Ok(Register::of_deposit(heap, calendar, LINES_BEFORE, sheets)?)
-}
-
 /// The register of the tender that a text tells of: its month and its offers.
 pub fn read_tender(heap: Global, input: &[u8]) -> Result<Register, AnswerFault>
     ensures { Answered (answered input.now) result }
@@ -65,7 +54,11 @@ pub fn read_tender(heap: Global, input: &[u8]) -> Result<Register, AnswerFault>
     if input.len() > MOST_BYTES {
         return Err(AnswerFault::Refused(TenderFault::Space));
     }
-    read_all(heap, input)
+    let first = FirstLines::read(input)?;
+    let calendar = first.open()?;
+    let (_, rest) = need_line(3, &calendar, first.rest)?;
+    let (_, sheets) = need_line(4, &calendar, rest)?;
+    Ok(Register::of_deposit(heap, calendar, LINES_BEFORE, sheets)?)
 }
 
 /// What is printed for a tender's text: the tables of its periods and its offers, or the refusal.
