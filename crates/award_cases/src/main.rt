@@ -4,18 +4,23 @@
 //! the texts' own, so a text may also lack its last line feed.
 #![tactic(auto)]
 
+ghost use Rattle.std.specs.Prelude.{◌<◌, length, IfSome};
+
 use std::io;
 use std::io::{Read, Write};
 use tender_text::report;
 
+/// What stands between two texts.
+const SEPARATOR: &[u8] = b"\n==\n";
+
 /// A text up to the next separator, and what follows the separator.
-fn cut(texts: &[u8]) -> Option<(&[u8], &[u8])> {
-    for at in 0..texts.len() {
-        if let [b'\n', b'=', b'=', b'\n', rest @ ..] = &texts[at..] {
-            return Some((&texts[0..at], rest));
-        }
-    }
-    None
+fn cut(texts: &[u8]) -> Option<(&[u8], &[u8])>
+    ensures { IfSome result (λ parts. length parts.1.now < length texts.now) }
+{
+    let at = texts
+        .windows(SEPARATOR.len())
+        .position(|bytes| bytes == SEPARATOR)?;
+    Some((&texts[..at], &texts[at + SEPARATOR.len()..]))
 }
 
 fn main(rt: HostRuntime) -> io::Result<()> {
@@ -23,10 +28,7 @@ fn main(rt: HostRuntime) -> io::Result<()> {
     let mut input = Vec::new(heap);
     rt.stdin().read_to_end(&mut input)?;
     let mut texts = input.as_slice();
-    for _ in 0..input.len() {
-        let Some((text, rest)) = cut(texts) else {
-            break;
-        };
+    while let Some((text, rest)) = cut(texts) {
         let answer = report(heap, text)?;
         rt.stdout().write_all(answer.as_slice())?;
         rt.stdout().write_all(b"==\n")?;

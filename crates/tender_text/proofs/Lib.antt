@@ -1,4 +1,1 @@
-mod Highs
-mod Numbers
-mod Rows
 mod Tenders

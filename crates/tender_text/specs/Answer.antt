@@ -1,28 +1,22 @@
 -- How the library answers a tender's text. Assumes nothing.
-use Rattle.std.specs.Prelude.{◌≡◌, ℕ, List, Ok, Err, Result}
-use Rattle.std.specs.Borrow.{Bor}
-use Rattle.text.specs.Judging.{◌>>=◌}
+use Rattle.std.specs.Prelude.{◌≡◌, Ok, Err, Result, IsOkAnd}
 use Rattle.book.specs.Register.{days_of, roll_of}
-use Rattle.book.specs.declared.register.Register.{Register}
-use Rattle.tender_text.specs.Needs.{need_line}
+use Rattle.book.specs.declared.register.Register.{Register as Roll}
+use Rattle.book.specs.declared.unread.DepositFault.{DepositFault}
+use Rattle.book.specs.declared.unread.DepositFault.TheVariants.{Memory as NoMemory, Register as ByRegister}
 use Rattle.tender_text.specs.Report.{Tender}
 use Rattle.tender_text.specs.declared.answer.AnswerFault.{AnswerFault}
 use Rattle.tender_text.specs.declared.answer.AnswerFault.TheVariants.{Refused, Memory}
 use Rattle.tender_text.specs.declared.fault.TenderFault.{TenderFault}
+use Rattle.tender_text.specs.declared.fault.TenderFault.TheVariants.{Register}
 
--- what follows the lines of the needs
-abbrev pub after_needs : (T : ℕ) → List ℕ → Result (List ℕ) TenderFault
-after_needs T text = do
-  (rapid, rest) ← need_line 3 T text
-  (complementary, sheets) ← need_line 4 T rest
-  Ok sheets
-
-abbrev pub rest_read : Result (Bor (List ℕ)) TenderFault → Result (List ℕ) TenderFault
-rest_read (Ok rest) = Ok rest.now
-rest_read (Err fault) = Err fault
+-- a refusal of the sheets is the tender's, unless there is no memory
+abbrev pub of_deposit : DepositFault → AnswerFault
+of_deposit (ByRegister fault) = Refused (Register fault)
+of_deposit NoMemory = Memory
 
 -- a register with the tender's month and its offers, or the tender's refusal, unless there is no memory
-abbrev pub Answered : Result Tender TenderFault → Result Register AnswerFault → Type 0
-Answered expected (Ok register) = (tender : Tender) × (expected ≡ Ok tender) × (days_of register ≡ tender.days) × ((roll_of register).offers ≡ tender.offers)
+abbrev pub Answered : Result Tender TenderFault → Result Roll AnswerFault → Type 0
+Answered expected (Ok register) = IsOkAnd expected (λ tender. (days_of register ≡ tender.days) × ((roll_of register).offers ≡ tender.offers))
 Answered expected (Err (Refused fault)) = expected ≡ Err fault
 Answered expected (Err Memory) = Unit {0}

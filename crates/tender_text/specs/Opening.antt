@@ -22,7 +22,7 @@ pub record Told : Type 0 where
   pub rest : List ℕ
 
 -- a line of so many whole numbers, and what follows it
-unfoldable pub numbers : (line count : ℕ) → List ℕ → Result (List ℕ × List ℕ) TenderFault
+abbrev pub numbers : (line count : ℕ) → List ℕ → Result (List ℕ × List ℕ) TenderFault
 numbers line count text = ok_or (line_of whole count text) (Form line)
 
 -- line 1 has the year, the month and the number of holidays, line 2 the holidays.

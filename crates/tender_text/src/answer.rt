@@ -1,12 +1,13 @@
 //! The tender that a text tells of, and what is printed for it.
-ghost use Rattle.std.specs.Prelude.{◌≡◌, ◌≤◌, IfOk};
-ghost use Rattle.tender_text.specs.Answer.{Answered, after_needs, rest_read};
-ghost use Rattle.tender_text.specs.Report.{answered, report as report_of, tender_of};
+ghost use Rattle.std.specs.Prelude.{◌≡◌, IfOk};
+ghost use Rattle.tender_text.specs.Answer.{Answered, of_deposit};
+ghost use Rattle.tender_text.specs.Report.{answered, report as report_of};
+ghost use Rattle.tender_text.specs.declared.answer.AnswerFault.TheVariants.{Refused};
 
 use crate::fault::TenderFault;
 use crate::needs::need_line;
 use crate::opening::FirstLines;
-use crate::printing::{refusal, tables};
+use crate::printing::tables;
 use book::{DepositFault, Register};
 use std::alloc::{AllocError, Global};
 
@@ -25,38 +26,24 @@ pub enum AnswerFault {
     Memory,
 }
 
-/// What follows the lines of the needs, in a month of so many periods.
-fn after_needs<'a>(periods: usize, text: &'a [u8]) -> Result<&'a [u8], TenderFault>
-    requires { periods ≤ 11 }
-    ensures { rest_read result ≡ after_needs periods text.now }
-{
-    let (_, rest) = need_line(3, periods, text)?;
-    let (_, sheets) = need_line(4, periods, rest)?;
-    Ok(sheets)
+/// A tender's refusal is passed on whole.
+impl From<TenderFault> for AnswerFault {
+    ghost from_gives = { λ fault r. r ≡ Refused fault };
+
+    fn from(fault: TenderFault) -> AnswerFault {
+        AnswerFault::Refused(fault)
+    }
 }
 
-/// The register of the tender that a text of no matter what length tells of.
-fn read_all(heap: Global, input: &[u8]) -> Result<Register, AnswerFault>
-    ensures { Answered (tender_of input.now) result }
-{
-    let first = match FirstLines::read(input) {
-        Ok(first) => first,
-        Err(fault) => return Err(AnswerFault::Refused(fault)),
-    };
-    let calendar = match first.open() {
-        Ok(calendar) => calendar,
-        Err(fault) => return Err(AnswerFault::Refused(fault)),
-    };
-    let sheets = match after_needs(calendar.periods(), first.rest) {
-        Ok(sheets) => sheets,
-        Err(fault) => return Err(AnswerFault::Refused(fault)),
-    };
-    match Register::of_deposit(heap, calendar, LINES_BEFORE, sheets) {
-        Ok(register) => Ok(register),
-        Err(DepositFault::Register(fault)) => Err(AnswerFault::Refused(TenderFault::Register(
-            fault,
-        ))),
-        Err(DepositFault::Memory) => Err(AnswerFault::Memory),
+/// A register's refusal is passed on whole, as the tender's.
+impl From<DepositFault> for AnswerFault {
+    ghost from_gives = { λ fault r. r ≡ of_deposit fault };
+
+    fn from(fault: DepositFault) -> AnswerFault {
+        match fault {
+            DepositFault::Register(fault) => AnswerFault::Refused(TenderFault::from(fault)),
+            DepositFault::Memory => AnswerFault::Memory,
+        }
     }
 }
 
@@ -67,7 +54,11 @@ pub fn read_tender(heap: Global, input: &[u8]) -> Result<Register, AnswerFault>
     if input.len() > MOST_BYTES {
         return Err(AnswerFault::Refused(TenderFault::Space));
     }
-    read_all(heap, input)
+    let first = FirstLines::read(input)?;
+    let calendar = first.open()?;
+    let (_, rest) = need_line(3, &calendar, first.rest)?;
+    let (_, sheets) = need_line(4, &calendar, rest)?;
+    Ok(Register::of_deposit(heap, calendar, LINES_BEFORE, sheets)?)
 }
 
 /// What is printed for a tender's text: the tables of its periods and its offers, or the refusal.
@@ -76,10 +67,7 @@ pub fn report(heap: Global, input: &[u8]) -> Result<Vec<u8>, AllocError>
 {
     match read_tender(heap, input) {
         Ok(register) => tables(heap, register.calendar(), register.standing()),
-        Err(AnswerFault::Refused(fault)) => {
-            let line = refusal(heap, fault)?;
-            Vec::from_slice(heap, line.as_bytes())
-        }
+        Err(AnswerFault::Refused(fault)) => Ok(format!(in heap; "{fault}\n")?.into_bytes()),
         Err(AnswerFault::Memory) => Err(AllocError),
     }
 }

@@ -1,9 +1,11 @@
-ghost use Rattle.std.specs.Prelude.{◌≡◌};
+ghost use Rattle.std.specs.Prelude.{◌≡◌, Some};
 ghost use Rattle.tender_text.specs.Fault as faults;
+ghost use Rattle.tender_text.specs.Fault.{refusal_text};
 ghost use Rattle.tender_text.specs.declared.fault.TenderFault.TheVariants.{Calendar as ByCalendar, Register as ByRegister};
 
 use book::RegisterFault;
 use calendar::CalendarFault;
+use std::fmt;
 
 /// Why a tender's text is refused.
 #[derive(Clone, Copy)]
@@ -59,5 +61,16 @@ impl TenderFault {
             TenderFault::Register(fault) => fault.place(),
             TenderFault::Space => 0,
         }
+    }
+}
+
+/// A refusal is written as its number and its place, each field with its semicolon.
+impl fmt::Display for TenderFault {
+    ghost output = { λ fault. Some (refusal_text fault) };
+
+    fn fmt<W: fmt::Write>(&self, f: &mut fmt::Formatter<W>) -> fmt::Result {
+        let number = self.number();
+        let place = self.place();
+        write!(f, "refused;{number};{place};")
     }
 }

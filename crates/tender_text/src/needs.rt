@@ -1,42 +1,36 @@
 //! The lines of the needs.
-ghost use Rattle.std.specs.Prelude.{◌≡◌, ◌+◌, ◌<◌, ◌≤◌, length, IfOk};
-ghost use Rattle.text.specs.Lines.{values_of};
+ghost use Rattle.std.specs.Prelude.{◌≡◌, length};
+ghost use Rattle.calendar.specs.Month.{day_counts};
 ghost use Rattle.tender_text.specs.Needs.{first_high as first_high_of, need_line as need_line_of};
 ghost use Rattle.tender_text.specs.Opening.{numbers_read};
 
 use crate::fault::TenderFault;
 use crate::opening::numbers;
 use book::RegisterFault;
+use calendar::Calendar;
 use text::Values;
 
 /// The highest need of a product in a period, in MW.
 const HIGHEST_NEED: u64 = 1_000;
 
-/// The first period whose need is too high.
-fn first_high(needs: &[u64]) -> Option<u64>
-    ensures { result ≡ first_high_of 1 needs.now }
+/// Where the first need that is too high stands, counted from 0.
+fn first_high(needs: &[u64]) -> Option<usize>
+    ensures { result ≡ first_high_of needs.now }
 {
-    for (past, need) in needs.iter().enumerate() {
-        if *need > HIGHEST_NEED {
-            return Some(past as u64 + 1);
-        }
-    }
-    None
+    needs.iter().position(|need| *need > HIGHEST_NEED)
 }
 
-/// The needs of one product in a month of so many periods, and what follows their line.
+/// The needs of one product in a month of that calendar, and what follows their line.
 pub(crate) fn need_line<'a>(
     line: u32,
-    periods: usize,
+    calendar: &Calendar,
     text: &'a [u8],
 ) -> Result<(Values, &'a [u8]), TenderFault>
-    requires { periods ≤ 11 }
-    ensures value { numbers_read result ≡ need_line_of line periods text.now }
-    ensures long { IfOk result (λ read. length (values_of read.0) ≡ periods) }
+    ensures { numbers_read result ≡ need_line_of line (length (day_counts calendar.now)) text.now }
 {
-    let (needs, rest) = numbers(line, periods, text)?;
+    let (needs, rest) = numbers(line, calendar.periods(), text)?;
     match first_high(needs.as_slice()) {
-        Some(period) => Err(TenderFault::Register(RegisterFault::Period(period))),
+        Some(past) => Err(TenderFault::Register(RegisterFault::Period(past as u64 + 1))),
         None => Ok((needs, rest)),
     }
 }

@@ -29,10 +29,7 @@ pub(crate) fn numbers<'a>(
     ensures value { numbers_read result ≡ numbers_of line count text.now }
     ensures long { IfOk result (λ read. length (values_of read.0) ≡ count) }
 {
-    match number_line(text, count) {
-        Some(read) => Ok(read),
-        None => Err(TenderFault::Form(line)),
-    }
+    number_line(text, count).ok_or(TenderFault::Form(line))
 }
 
 impl<'a> FirstLines<'a> {
