@@ -1,8 +1,8 @@
-ghost use Rattle.std.specs.Prelude.{◌≡◌, ◌<◌, ◌≤◌, true, IfOk, Err, filter, take, ◌≢◌, nat_lt};
+ghost use Rattle.std.specs.Prelude.{◌≡◌, ◌≢◌, IfOk, Err, filter, take, nat_lt};
 ghost use Rattle.calendar.specs.Date.{month_length};
 ghost use Rattle.calendar.specs.Kept.{Kept};
 ghost use Rattle.calendar.specs.Month.{day_counts, told};
-ghost use Rattle.calendar.specs.Opening.{announced, rising, opened};
+ghost use Rattle.calendar.specs.Opening.{announced, opened};
 ghost use Rattle.calendar.specs.Periods.{periods};
 ghost use Rattle.short_list.specs.ShortList.{items};
 ghost use Rattle.calendar.specs.declared.fault.CalendarFault.TheVariants.{Weeks};
