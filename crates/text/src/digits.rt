@@ -10,7 +10,7 @@ use crate::run::run;
 pub fn is_digit(byte: u8) -> bool
     ensures { result ≡ digit byte }
 {
-    matches!(byte as char, '0'..='9')
+    byte.is_ascii_digit()
 }
 
 /// The digits at the front, if they are at least one and not more than `most`, and what follows them.

@@ -20,7 +20,7 @@ pub struct Name<'a> {
 pub fn is_letter_or_digit(byte: u8) -> bool
     ensures { result ≡ letter_or_digit byte }
 {
-    matches!(byte as char, 'A'..='Z' | '0'..='9')
+    byte.is_ascii_uppercase() || byte.is_ascii_digit()
 }
 
 /// The name at the front, and what follows it; none where no letter or digit stands there, or too many.
