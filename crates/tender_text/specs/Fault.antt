@@ -1,5 +1,5 @@
 -- The refusals of a tender's text: the number and the place of each. Assumes nothing.
-use Rattle.std.specs.Prelude.{ℕ, List, [], ◌∷◌, ◌++◌, codes, decimal}
+use Rattle.std.specs.Prelude.{ℕ, List, ◌++◌, codes, decimal}
 use Rattle.book.specs.Fault as book
 use Rattle.calendar.specs.Fault as calendar
 use Rattle.tender_text.specs.declared.fault.TenderFault.{TenderFault}
@@ -19,4 +19,4 @@ place Space = 0
 
 -- a refusal's number and place, as they are written
 abbrev pub refusal_text : TenderFault → List ℕ
-refusal_text fault = codes "refused;" ++ (decimal (number fault) ++ (59 ∷ decimal (place fault) ++ (59 ∷ [])))
+refusal_text fault = codes "refused;" ++ (decimal (number fault) ++ (codes ";" ++ (decimal (place fault) ++ codes ";")))

@@ -1,5 +1,5 @@
 -- What a tender's text tells, and what is printed for it. Assumes nothing.
-use Rattle.std.specs.Prelude.{ℕ, ◌+◌, cond, List, [], ◌∷◌, ◌++◌, length, Ok, Err, codes, decimal, Result, nat_le}
+use Rattle.std.specs.Prelude.{ℕ, ◌+◌, cond, List, [], ◌∷◌, ◌++◌, flat_map, length, Ok, Err, codes, decimal, Result, nat_le}
 use Rattle.text.specs.Judging.{◌>>=◌}
 use Rattle.text.specs.Written.{line_text}
 use Rattle.sheet.specs.Offer.{Offer, width}
@@ -60,8 +60,7 @@ abbrev pub offer_line : Offer → List ℕ
 offer_line o = line_text (o.name ∷ decimal o.number ∷ product_text o.product ∷ decimal (width o) ∷ [])
 
 abbrev pub offer_rows : List Offer → List ℕ
-offer_rows [] = []
-offer_rows (o ∷ offers) = offer_line o ++ offer_rows offers
+offer_rows = flat_map offer_line
 
 abbrev pub offer_table : List Offer → List ℕ
 offer_table offers = line_text (codes "offer" ∷ codes "number" ∷ codes "product" ∷ codes "MW" ∷ []) ++ offer_rows offers

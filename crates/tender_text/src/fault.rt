@@ -1,6 +1,5 @@
 ghost use Rattle.std.specs.Prelude.{◌≡◌, Some};
 ghost use Rattle.tender_text.specs.Fault as faults;
-ghost use Rattle.tender_text.specs.Fault.{refusal_text};
 ghost use Rattle.tender_text.specs.declared.fault.TenderFault.TheVariants.{Calendar as ByCalendar, Register as ByRegister};
 
 use book::RegisterFault;
@@ -66,7 +65,7 @@ impl TenderFault {
 
 /// A refusal is written as its number and its place, each field with its semicolon.
 impl fmt::Display for TenderFault {
-    ghost output = { λ fault. Some (refusal_text fault) };
+    ghost output = { λ fault. Some (faults.refusal_text fault) };
 
     fn fmt<W: fmt::Write>(&self, f: &mut fmt::Formatter<W>) -> fmt::Result {
         let number = self.number();

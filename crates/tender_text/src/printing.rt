@@ -1,9 +1,7 @@
-ghost use Rattle.std.specs.Prelude.{◌≡◌, ◌≤◌, [], ◌∷◌, ◌++◌, map, IfOk, string_bytes, decimal, OnOk};
+ghost use Rattle.std.specs.Prelude.{◌≡◌, ◌++◌, map, IfOk, OnOk, string_bytes};
 ghost use Rattle.calendar.specs.Month.{day_counts};
-ghost use Rattle.text.specs.Written.{line_text};
 ghost use Rattle.sheet.specs.Facts.{facts};
-ghost use Rattle.sheet.specs.Offer.{width as width_of_lem};
-ghost use Rattle.tender_text.specs.Report.{offer_line, offer_rows, offer_table, period_rows, product_text};
+ghost use Rattle.tender_text.specs.Report.{offer_line, offer_table, product_text};
 ghost use Rattle.tender_text.specs.Report.{period_table as table_of};
 
 use calendar::Calendar;
