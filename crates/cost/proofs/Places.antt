@@ -1,6 +1,6 @@
 -- Cells of a grid: where they are, and what a value put into one of them leaves. Assumes nothing.
-use Rattle.std.proofs.Common.{◌≡◌, ℕ, zero, suc, ◌+◌, ◌*◌, ◌/◌, ◌%◌, ◌<◌, ◌≤◌, Bool, true, false, cond, ◌&&◌, ltb, leb, List, [], ◌∷◌, length, get_or, set, Some, None, Option, sym, refl, ap, ◌∙◌, mul-le-mul_right, add-mul, arith, length-set}
-use Rattle.std.specs.List.{slice_get}
+use Rattle.std.proofs.Common.{◌≡◌, ℕ, zero, suc, ◌+◌, ◌*◌, ◌/◌, ◌%◌, ◌<◌, ◌≤◌, Bool, true, false, cond, ◌&&◌, ltb, leb, List, [], ◌∷◌, length, get_or, set, Some, None, Option, sym, refl, ap, ◌∙◌, mul-le-mul_right, add-mul, arith, length-set, replicate}
+use Rattle.std.specs.List.{slice_get, FoldsTo}
 use Rattle.std.specs.Option.{option_map, option_flatten}
 use Rattle.std.proofs.lemmas.Nat.{div-mul-add, mod-mul-add}
 use Rattle.std.proofs.lemmas.List.{get_or-set_same}
@@ -98,3 +98,11 @@ cell_same {C = C} t fits i j row column x =
     ap (λ q. option_flatten (option_map (slice_get (with_cell t i j x).cells) q)) (put_places t i j x i j ∙ place_there t fits i j row column) ∙
     ap (λ (u : Table C). slice_get u.cells p) (put_there t fits i j row column x) ∙
     slice_get-get_or (set t.cells p x) p x lt ∙ ap Some (get_or-set_same t.cells p x x (place_within t fits i j row column))
+
+-- calls that give x and change nothing give a list of x alone
+pub only_from_calls : {F C : Type 0} (step : F → C → F → Type 0) (f : F) (x : C) → ((y : C) (h : F) → step f y h → (h ≡ f) × (y ≡ x)) → (ys : List C) (last : F) → FoldsTo step f ys last → ys ≡ replicate (length ys) x
+only_from_calls step f x gives [] last run = refl
+only_from_calls step f x gives (y ∷ ys) last run =
+    let call = gives y run.0 run.1 in
+    let rest = only_from_calls step f x gives ys last (rw call.0 at run.2) in
+    λ i. call.1 i ∷ rest i
