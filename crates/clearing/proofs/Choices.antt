@@ -1,9 +1,9 @@
 -- Choices of blocks: what the choice of none leaves, and how many blocks a choice takes. Assumes nothing.
-use Rattle.std.proofs.Common.{◌≡◌, ℕ, ◌+◌, ◌/◌, ◌%◌, ◌^◌, ◌<◌, Bool, true, false, cond, ◌&&◌, eqb, List, [], ◌∷◌, sym, refl, ap, ◌∙◌, subst, add-zero, pow-suc, zero-add, div-one, add-one, one-add, arith, eqb-true}
+use Rattle.std.proofs.Common.{◌≡◌, ℕ, ◌+◌, ◌/◌, ◌%◌, ◌^◌, ◌<◌, Bool, true, false, cond, ◌&&◌, eqb, List, [], ◌∷◌, sym, refl, ap, ◌∙◌, subst, add-zero, pow-suc, zero-add, div-one, add-one, one-add, arith}
 use native.Mathlib.Nat.{zero-div, div-div-eq-div-mul}
 use native.Mathlib.Numerals.{unary_clauses}
+use Rattle.std.proofs.lemmas.Bool.Decides.{nat_tests}
 use lib.Count.{ones, ones_step}
-use borrow.Author.Tests.{eqb-false}
 use Rattle.sheet.specs.Offer.{Offer, width}
 use Rattle.sheet.specs.declared.product.Product.{Product}
 use Rattle.sheet.specs.declared.product.Product.TheVariants.{Rapid, Complementary}
@@ -28,14 +28,10 @@ book_kept : (place : ℕ) (offers : List Offer) → taken_from place 0 offers �
 book_kept place [] = refl
 book_kept place (o ∷ os) = λ i. cond (none_chosen (has_block o) place i) (withheld o) o ∷ book_kept (place + cond (has_block o) 1 0) os i
 
-nothing_if : (b : Bool) → cond {A = ℕ} b 0 0 ≡ 0
-nothing_if true = refl
-nothing_if false = refl
-
 no_mw : (product : Product) (place : ℕ) (offers : List Offer) → volume product offers (each (λ o is_taken. cond is_taken (width o) 0) offers (takes_from place 0 offers)) ≡ 0
 no_mw product place [] = refl
 no_mw product place (o ∷ os) =
-    let e : cond (is_of product o.product) (cond (has_block o && holds 0 place) (width o) 0) 0 ≡ 0 = ap (λ b. cond (is_of product o.product) (cond b (width o) 0) 0) (none_chosen (has_block o) place) ∙ nothing_if (is_of product o.product) in
+    let e : cond (is_of product o.product) (cond (has_block o && holds 0 place) (width o) 0) 0 ≡ 0 = grind (arith, none_chosen (has_block o) place) in
     let f = no_mw product (place + cond (has_block o) 1 0) os in
     omega (arith, e, f)
 
@@ -48,11 +44,7 @@ none_taken offers n = (book_kept 0 offers, cover_kept offers n)
 -- ---- ones
 
 one_digit : (n : ℕ) → cond (eqb (n % 2) 1) 1 0 ≡ n % 2
-one_digit n = by (eqb (n % 2) 1) refl
-  where
-    by : (b : Bool) → eqb (n % 2) 1 ≡ b → cond b 1 0 ≡ n % 2
-    by true e = sym (eqb-true (n % 2) 1 e)
-    by false e = let h = eqb-false (n % 2) 1 e in omega arith
+one_digit n = grind (arith, nat_tests)
 
 ones_zero : ones 0 ≡ 0
 unfolding ones

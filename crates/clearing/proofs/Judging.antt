@@ -5,6 +5,7 @@ use lib.Dec.{eqb_refl}
 use borrow.Author.Tests.{eqb-false}
 use Rattle.std.specs.List.{ContainsAt as Has, AllByRecursion}
 use Rattle.std.proofs.ByRecursion.{all-has}
+use Rattle.std.specs.Ordering.{ordering_then}
 use Rattle.sheet.specs.Offer.{Offer}
 use Rattle.sheet.specs.declared.product.Product.TheVariants.{Rapid, Complementary}
 use Rattle.cost.specs.Rule.{Rule, Ranks}
@@ -33,14 +34,9 @@ whole_compares f = record { told = whole_told; tells = λ x y. by x y (ltb x y) 
     by x y false false p q = let h = ltb-false x y p in let k = eqb-false x y q in omega arith
 
 abbrev pub pair_compares : (A B : Rule) → Compares A → Compares B → Compares (pair_rule A B)
-pair_compares A B a b = record { told = λ p q. then (a.told p.0 q.0) (b.told p.1 q.1); tells = λ p q. by p q (a.told p.0 q.0) (b.told p.1 q.1) (a.tells p.0 q.0) (b.tells p.1 q.1) }
+pair_compares A B a b = record { told = λ p q. ordering_then (a.told p.0 q.0) (b.told p.1 q.1); tells = λ p q. by p q (a.told p.0 q.0) (b.told p.1 q.1) (a.tells p.0 q.0) (b.tells p.1 q.1) }
   where
-    then : Ordering → Ordering → Ordering
-    then Less o = Less
-    then Equal o = o
-    then Greater o = Greater
-
-    by : (p q : A.Meaning × B.Meaning) (o r : Ordering) → Ranks A p.0 q.0 o → Ranks B p.1 q.1 r → Ranks (pair_rule A B) p q (then o r)
+    by : (p q : A.Meaning × B.Meaning) (o r : Ordering) → Ranks A p.0 q.0 o → Ranks B p.1 q.1 r → Ranks (pair_rule A B) p q (ordering_then o r)
     by p q Less r h k = inl h
     by p q Equal Less h k = inr (h, k)
     by p q Equal Equal h k = λ i. (h i, k i)

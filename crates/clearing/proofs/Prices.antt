@@ -1,6 +1,7 @@
 -- A product's price is 0 or the criterion of one of its accepted MW. Assumes nothing.
-use Rattle.std.proofs.Common.{◌≡◌, ℕ, zero, suc, ◌<◌, cond, ◌⊎◌, List, [], ◌∷◌, ◌++◌, take, ℤ, pos, refl, inl, inr, arith}
+use Rattle.std.proofs.Common.{◌≡◌, ℕ, zero, suc, ◌<◌, cond, ◌⊎◌, List, [], ◌∷◌, take, ℤ, pos, refl, inl, inr, arith}
 use Rattle.std.specs.List.{ContainsAt as Has}
+use Rattle.std.proofs.ByRecursion.{has_append_cases}
 use Rattle.sheet.specs.Offer.{Offer}
 use Rattle.sheet.specs.declared.product.Product.{Product}
 use Rattle.sheet.specs.declared.product.Product.TheVariants.{Rapid, Complementary}
@@ -14,13 +15,6 @@ use Rattle.clearing.specs.Laws.{PriceReached}
 has_none : {X : Type 0} (x : X) → Has [] x → ⊥
 has_none x h = let l = h.1 in omega arith
 
--- it stands in one of the two
-has_either : {X : Type 0} (xs ys : List X) (x : X) → Has (xs ++ ys) x → Has xs x ⊎ Has ys x
-has_either [] ys x h = inr h
-has_either (y ∷ xs) ys x (zero, l, e) = inl (0, omega arith, e)
-has_either (y ∷ xs) ys x (suc k, l, e) =
-    elim (has_either xs ys x (k, omega arith, e)) [ inl h ↦ inl (suc h.0, omega (arith, h.1), h.2) | inr h ↦ inr h ]
-
 own : (product other : Product) (cs : List ℤ) (c : ℤ) → Has (cond (is_of product other) cs []) c → (other ≡ product) × Has cs c
 own Rapid Rapid cs c h = (refl, h)
 own Rapid Complementary cs c h = absurd (has_none c h)
@@ -33,7 +27,7 @@ module _ (d t : ℕ) (product : Product) (c : ℤ) where
   of_some_offer [] powers h = has_none c h
   of_some_offer (o ∷ os) [] h = has_none c h
   of_some_offer (o ∷ os) (q ∷ qs) h =
-      elim (has_either (cond (is_of product o.product) (take q (megawatts d t o)) []) (accepted d t product os qs) c h) [
+      elim (has_append_cases (cond (is_of product o.product) (take q (megawatts d t o)) []) (accepted d t product os qs) c h) [
         | inl k ↦ inl (own product o.product (take q (megawatts d t o)) c k)
         | inr k ↦ inr (of_some_offer os qs k)
       ]

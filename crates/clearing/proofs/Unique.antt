@@ -1,7 +1,5 @@
 -- At most one award is named, for every rule: of two, each is not before the other. Assumes nothing.
 use Rattle.std.proofs.Common.{◌≡◌, ℕ, suc, ◌+◌, ◌<◌, List, [], ◌∷◌, ◌++◌, map, length, get_or, sym, refl, ap, ◌∙◌, subst, inl, inr, arith}
-use mathlib.Core.Logic.{by_cases}
-use native.Mathlib.Decide.{dec_lt}
 use Rattle.sheet.specs.Offer.{Offer}
 use Rattle.book.specs.Needs.{need_of}
 use Rattle.book.specs.declared.need.Need.{Need}
@@ -12,7 +10,7 @@ use Rattle.clearing.specs.Period.{joining, Award, of_product, price, Cover, Lawf
 use Rattle.clearing.specs.Month.{remaining, still, blocks, blocks_taken, MonthAward, NamedPeriods, block_charges, block_paid, added_up, AdmittedMonth, BeforeMonth, NamedMonth}
 
 pub same_numbers : (x y : ℕ) → (x < y → ⊥) → (y < x → ⊥) → x ≡ y
-same_numbers x y a b = by_cases (dec_lt x y) (λ h. absurd (a h)) (λ n. by_cases (dec_lt y x) (λ h. absurd (b h)) (λ m. omega arith))
+same_numbers x y a b = omega arith
 
 -- neither list is lower, and they are of one length
 same_lists : (xs ys : List ℕ) → length xs ≡ length ys → (Lower xs ys → ⊥) → (Lower ys xs → ⊥) → xs ≡ ys

@@ -30,9 +30,8 @@ impl ClearingFault {
         ensures { result ≡ (number_and_place self).1 }
     {
         match self {
-            ClearingFault::Period(period) => period,
+            ClearingFault::Period(period) | ClearingFault::Shortage(period) => period,
             ClearingFault::Space => 0,
-            ClearingFault::Shortage(period) => period,
         }
     }
 }

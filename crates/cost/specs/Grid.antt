@@ -2,7 +2,7 @@
 use Rattle.std.specs.Prelude.{◌≡◌, ℕ, ◌+◌, ◌*◌, ◌≤◌, cond, ◌&&◌, List, length, take, drop, replicate, Some, None, Option, nat_le, nat_lt, slice_set}
 use Rattle.std.specs.Borrow.{MutBor}
 use Rattle.std.specs.List.{slice_get}
-use Rattle.std.specs.Option.{option_map, option_flatten}
+use Rattle.std.specs.Option.{option_map, option_and_then}
 use Rattle.cost.specs.declared.grid.Grid.{Grid}
 
 pub record Table (C : Type 0) : Type 0 where
@@ -38,7 +38,7 @@ place t i j = cond (nat_lt j t.columns) (option_map (λ from. from + j) (row_sta
 
 -- the cell in row i and column j
 abbrev pub cell : {C : Type 0} → Table C → ℕ → ℕ → Option C
-cell t i j = option_flatten (option_map (slice_get t.cells) (place t i j))
+cell t i j = option_and_then (slice_get t.cells) (place t i j)
 
 -- the cells with x at a place, if there is one
 abbrev pub put_at : {C : Type 0} → List C → Option ℕ → C → List C

@@ -1,7 +1,5 @@
 -- The first cheapest of a list of costs. Assumes nothing.
 use Rattle.std.specs.Prelude.{◌≡◌, ℕ, ◌<◌, List, length, Option, MatchOption, slice_index_or}
-use Rattle.std.specs.declared.cmp.Ordering.TheVariants.{Less, Equal, Greater}
-use Rattle.std.specs.declared.cmp.Ordering.{Ordering}
 use Rattle.cost.specs.Rule.{Rule}
 
 -- the first cheapest of the first n costs stands at r
@@ -18,9 +16,3 @@ FirstCheapest R meaning costs r = Cheapest R meaning costs (length costs) r
 -- what a scan answers: where the first cheapest cost stands, or none where there is no cost
 abbrev pub Scanned : (R : Rule) {C : Type 0} → (C → R.Meaning) → List C → Option ℕ → Type 0
 Scanned R meaning costs r = MatchOption r (length costs ≡ 0) (FirstCheapest R meaning costs)
-
--- the place that a scan goes on with: the new one only where it is cheaper
-abbrev pub chosen : Ordering → (new best : ℕ) → ℕ
-chosen Less new best = new
-chosen Equal new best = best
-chosen Greater new best = best

@@ -2,7 +2,8 @@
 ghost use Rattle.std.specs.Prelude.{◌≡◌, ◌+◌, ◌*◌, ◌<◌, ◌≤◌, length, replicate, IfSome, MatchOption, slice_set};
 ghost use Rattle.std.specs.List.{slice_get};
 ghost use Rattle.std.specs.Option.{option_map};
-ghost use Rattle.cost.specs.Grid.{table, Laid, row_start, place, row_of, cell, with_cell, filled};
+
+use std::mem;
 
 /// Rows one after another over cells that the caller lends; the cells past the last row are not used.
 #[derive(Drop)]
@@ -10,27 +11,24 @@ pub struct Grid<'a, C> {
     cells: &'a mut [C],
     rows: usize,
     columns: usize,
+    ghost fits: { rows * columns ≤ length cells.now },
 }
 
 impl<'a, C: Copy> Grid<'a, C> {
+    ghost use Rattle.cost.specs.Grid.{table, Laid, row_start, place, row_of, cell, with_cell, filled};
+
     /// Lays rows over the cells; none if the cells are too few.
     pub fn new(cells: &'a mut [C], rows: usize, columns: usize) -> Option<Grid<'a, C>>
         ensures { MatchOption result (length cells.old < rows * columns) (Laid rows columns cells.entry) }
     {
-        match rows.checked_mul(columns) {
-            Some(size) => {
-                if size <= cells.len() {
-                    Some(Grid {
-                        cells,
-                        rows,
-                        columns,
-                    })
-                } else {
-                    None
-                }
-            }
-            None => None,
+        if rows.checked_mul(columns)? > cells.len() {
+            return None;
         }
+        Some(Grid {
+            cells,
+            rows,
+            columns,
+        })
     }
 
     pub fn rows(&self) -> usize
@@ -50,7 +48,7 @@ impl<'a, C: Copy> Grid<'a, C> {
         ensures { result ≡ cell (table self.now) row column }
     {
         let i = self.place_of(row, column)?;
-        at(self.cells, i)
+        Some(self.cells[i])
     }
 
     /// Puts a value into a cell and answers what it held before; none outside, where nothing changes.
@@ -60,7 +58,8 @@ impl<'a, C: Copy> Grid<'a, C> {
         ensures slice { self.new.cells.ghost_name ≡ self.old.cells.ghost_name }
     {
         let i = self.place_of(row, column)?;
-        replace(self.cells, i, value)
+        let cells = &mut *self.cells;
+        Some(mem::replace(&mut cells[i], value))
     }
 
     /// Puts a value into every cell.
@@ -68,7 +67,7 @@ impl<'a, C: Copy> Grid<'a, C> {
         ensures after { table self.new ≡ filled (table self.old) value }
         ensures slice { self.new.cells.ghost_name ≡ self.old.cells.ghost_name }
     {
-        replace_all(self.cells, value);
+        self.cells.fill_with(|| value);
     }
 
     /// The cells of a row, to hand on; none outside of the rows.
@@ -91,8 +90,7 @@ impl<'a, C: Copy> Grid<'a, C> {
         ensures value { result.now ≡ (table self.entry).cells }
         ensures slice { result.ghost_name ≡ self.entry.cells.ghost_name }
     {
-        let cells = self.cells;
-        cells
+        self.cells
     }
 
     /// Where a row begins; none outside of the rows.
@@ -103,55 +101,17 @@ impl<'a, C: Copy> Grid<'a, C> {
         if row >= self.rows {
             return None;
         }
-        let from = row.checked_mul(self.columns)?;
-        let end = from.checked_add(self.columns)?;
-        if end <= self.cells.len() {
-            Some(from)
-        } else {
-            None
-        }
+        Some(row * self.columns)
     }
 
     /// Where a row has a column; none outside of the rows and columns.
     fn place_of(&self, row: usize, column: usize) -> Option<usize>
-        ensures { result ≡ place (table self.now) row column }
+        ensures value { result ≡ place (table self.now) row column }
+        ensures within { IfSome result (λ i. i < length self.now.cells.now) }
     {
         if column >= self.columns {
             return None;
         }
-        let from = self.start_of(row)?;
-        Some(from + column)
-    }
-}
-
-fn at<C: Copy>(cells: &[C], i: usize) -> Option<C>
-    ensures { result ≡ slice_get cells.now i }
-{
-    if i < cells.len() {
-        Some(cells[i])
-    } else {
-        None
-    }
-}
-
-/// Puts a value in one place, and answers what stood there.
-fn replace<C: Copy>(cells: &mut [C], i: usize, value: C) -> Option<C>
-    ensures held { result ≡ slice_get cells.old i }
-    ensures after { cells.new ≡ slice_set cells.old i value }
-{
-    if i < cells.len() {
-        let held = cells[i];
-        cells[i] = value;
-        Some(held)
-    } else {
-        None
-    }
-}
-
-fn replace_all<C: Copy>(cells: &mut [C], value: C)
-    ensures { cells.new ≡ replicate (length cells.old) value }
-{
-    for cell in cells.iter_mut() {
-        *cell = value;
+        Some(self.start_of(row)? + column)
     }
 }

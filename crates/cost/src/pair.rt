@@ -36,10 +36,8 @@ impl<A: CostRule, B: CostRule> CostRule for Pair<A, B> {
     }
 
     fn compare(&self, a: (A::Cost, B::Cost), b: (A::Cost, B::Cost)) -> Ordering {
-        match self.first.compare(a.0, b.0) {
-            Ordering::Less => Ordering::Less,
-            Ordering::Equal => self.second.compare(a.1, b.1),
-            Ordering::Greater => Ordering::Greater,
-        }
+        self.first
+            .compare(a.0, b.0)
+            .then_with(|| self.second.compare(a.1, b.1))
     }
 }

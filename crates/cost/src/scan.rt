@@ -1,35 +1,20 @@
 //! Scans over the caller's costs, for every rule.
 ghost use Rattle.std.specs.Prelude.{◌≡◌, None, MatchOption};
 ghost use Rattle.cost.specs.Grid.{table, row_of};
-ghost use Rattle.cost.specs.Scan.{Scanned, chosen};
+ghost use Rattle.cost.specs.Scan.{Scanned};
 
 use crate::grid::Grid;
 use crate::rule::CostRule;
-use std::cmp::Ordering;
 
 /// Where the first cheapest cost stands; none if there is no cost.
 pub fn cheapest<R: CostRule>(rule: &R, costs: &[R::Cost]) -> Option<usize>
     ensures { Scanned R.CostRule.rule R.CostRule.meaning costs.now result }
 {
-    if costs.is_empty() {
-        return None;
-    }
-    let mut best = 0;
-    for i in 1..costs.len() {
-        best = better(rule.compare(costs[i], costs[best]), i, best);
-    }
-    Some(best)
-}
-
-/// The new place where its cost is cheaper; of equal costs the first stays the best.
-fn better(order: Ordering, new: usize, best: usize) -> usize
-    ensures { result ≡ chosen order new best }
-{
-    match order {
-        Ordering::Less => new,
-        Ordering::Equal => best,
-        Ordering::Greater => best,
-    }
+    costs
+        .iter()
+        .enumerate()
+        .min_by(|a, b| rule.compare(*a.1, *b.1))
+        .map(|(place, _)| place)
 }
 
 /// The column of the first cheapest cost in a row; none if the grid has no such row or the row is empty.

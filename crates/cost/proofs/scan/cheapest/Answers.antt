@@ -1,6 +1,11 @@
-use Rattle.cost.proofs.Turns.{scan_turn}
+use Rattle.std.proofs.Common.{◌≡◌, rules}
+use Rattle.std.proofs.lemmas.Iterator.{YieldsList-from_slice}
+use Rattle.std.proofs.lemmas.Iterator.Consumers.{YieldsList-from_enumerate}
+use Rattle.std.specs.Option.{option_map}
+use Rattle.cost.proofs.Turns.{first_of_least}
 use Rattle.cost.proofs.scan.cheapest.Goals as goal
 
-pub loop-i-preserved : goal.loop-i-preserved
-loop-i-preserved g c =
-    scan_turn g.R.CostRule.rule g.R.CostRule.meaning c.args.costs.now c.loop-i.i c.loop-i.best c.index-costs-i.result c.index-costs-best.result c.loop-i.invariant c.loop-i-test.true c.index-costs-i.is c.index-costs-best.is c.compare.result c.better-best.result c.better-best.ensures c.compare.ensures
+pub returns : goal.returns
+returns g c =
+    let place : c.map.result ≡ option_map (λ p. p.0) c.min_by.result = search rules in
+    rw place (first_of_least g.R.CostRule.rule g.R.CostRule.meaning c.args.costs.now _ (λ f x y o h k. search rules) _ _ _ _ c.min_by.ensures.ran (YieldsList-from_enumerate (YieldsList-from_slice c.args.costs.now cc) c.enumerate.ensures.count))
