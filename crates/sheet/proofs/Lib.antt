@@ -7,8 +7,8 @@ pub mod Kept
 pub mod LinesBack
 pub mod Periods
 pub mod Placed
-pub mod Puts
 pub mod Rows
 pub mod Saves
 pub mod SheetKeeps
 pub mod Short
+pub mod Writes
