@@ -1,12 +1,12 @@
 -- A text written from a buffer's start.
 use Rattle.std.proofs.Common.{◌≡◌, ℕ, suc, ◌+◌, ◌^◌, ◌<◌, ◌≤◌, List, [], ◌∷◌, ◌++◌, length, take, drop, set, Some, None, Option, sym, refl, ap, ◌∙◌, append_assoc, add-zero, zero-add, arith, ⊎_elim}
-use Rattle.std.specs.Borrow.{GName, MutBor}
+use Rattle.std.specs.Borrow.{GName}
 use Rattle.std.specs.List.{concat}
 use Rattle.std.proofs.lemmas.Bool.{cases_lt}
 use Rattle.std.proofs.lemmas.Bool.Decides.{nat_tests}
 use Rattle.std.proofs.lemmas.List.{length-set, take_more_set, drop-set-lt, take-append-drop}
 use Rattle.std.proofs.lemmas.List.Sums.{fold-append}
-use Rattle.sheet.specs.Writing.{Written, counted, fresh, byte_at, and_byte, and_text, and_lines}
+use Rattle.sheet.specs.Writing.{Written, counted, byte_at, and_byte, and_text, and_lines}
 
 is_counted : (n : ℕ) → n < 2 ^ 64 → counted n ≡ Some n
 is_counted n lt = grind (arith, nat_tests)
@@ -33,7 +33,7 @@ lines_slice w [] = refl
 lines_slice w (line ∷ lines) = lines_slice (and_text w line) lines ∙ text_slice w line
 
 module _ (slice : GName) where
-  abbrev at : List ℕ → Option ℕ → Written
+  abbrev pub at : List ℕ → Option ℕ → Written
   at buffer n = record { slice = slice; buffer = buffer; length = n }
 
   text_none : (buffer text : List ℕ) → and_text (at buffer None) text ≡ at buffer None
@@ -64,12 +64,12 @@ module _ (slice : GName) where
       ∙ append_assoc (take n buffer) (byte ∷ []) (text ++ drop (n + 1 + length text) (set buffer n byte))
       ∙ ap (λ l. take n buffer ++ (byte ∷ (text ++ l))) (drop-set-lt (n + 1 + length text) buffer n byte (omega arith) ∙ ap (λ k. drop k buffer) next)
 
-module _ (buffer : MutBor (List ℕ)) (lines : List (List ℕ)) (start end : Written) (none : start ≡ fresh buffer) (all : end ≡ and_lines start lines) where
-  whole : end ≡ and_text (fresh buffer) (concat lines)
-  whole = all ∙ ap (λ w. and_lines w lines) none ∙ lines_text (fresh buffer) lines
+module _ (lines : List (List ℕ)) {slice : GName} {buffer : List ℕ} {start end : Written} (none : start ≡ at slice buffer (Some 0)) (all : end ≡ and_lines start lines) where
+  whole : end ≡ and_text (at slice buffer (Some 0)) (concat lines)
+  whole = all ∙ ap (λ w. and_lines w lines) none ∙ lines_text (at slice buffer (Some 0)) lines
 
   pub lines_length : end.length ≡ counted (length (concat lines))
-  lines_length = ap (λ w. w.length) whole ∙ text_length buffer.ghost_name buffer.now (concat lines) 0 (omega arith) ∙ ap counted (zero-add (length (concat lines)))
+  lines_length = ap (λ w. w.length) whole ∙ text_length slice buffer (concat lines) 0 (omega arith) ∙ ap counted (zero-add (length (concat lines)))
 
-  pub lines_buffer : length (concat lines) < 2 ^ 64 → length (concat lines) ≤ length buffer.now → end.buffer ≡ concat lines ++ drop (length (concat lines)) buffer.now
-  lines_buffer small fits = ap (λ w. w.buffer) whole ∙ text_buffer buffer.ghost_name buffer.now (concat lines) 0 (omega arith) (omega arith) ∙ ap (λ k. concat lines ++ drop k buffer.now) (zero-add (length (concat lines)))
+  pub lines_buffer : length (concat lines) < 2 ^ 64 → length (concat lines) ≤ length buffer → end.buffer ≡ concat lines ++ drop (length (concat lines)) buffer
+  lines_buffer small fits = ap (λ w. w.buffer) whole ∙ text_buffer slice buffer (concat lines) 0 (omega arith) (omega arith) ∙ ap (λ k. concat lines ++ drop k buffer) (zero-add (length (concat lines)))

@@ -1,5 +1,5 @@
 //! An offer saved as its sheet.
-ghost use Rattle.std.specs.Prelude.{◌≡◌, ◌^◌, ◌<◌, ◌≤◌, [], ◌∷◌, ◌++◌, map, length, take, drop, decimal};
+ghost use Rattle.std.specs.Prelude.{◌≡◌, ◌^◌, ◌<◌, ◌≤◌, ◌++◌, map, length, take, drop, decimal};
 ghost use Rattle.std.specs.List.{concat};
 ghost use Rattle.text.specs.Written.{line_text, price_text};
 ghost use Rattle.sheet.specs.Facts.{facts};
@@ -28,10 +28,11 @@ impl Offer {
     fn put_shape(&self, sheet: &mut Writer<'_>)
         ensures { so_far sheet.new ≡ and_text (so_far sheet.old) (shape_text (facts self.now)) }
     {
-        sheet.field::<Whole>(self.widths.as_slice().len() as u32);
-        sheet.field::<Whole>(self.priced_count());
-        sheet.field::<Whole>(u32::from(self.block.is_some()));
-        sheet.byte(b'\n');
+        sheet.line::<Whole>(&[
+            self.widths.as_slice().len() as u32,
+            self.priced_count(),
+            u32::from(self.block.is_some()),
+        ]);
     }
 
     /// Puts the line of the priced periods.
@@ -62,8 +63,7 @@ impl Offer {
         ensures { so_far sheet.new ≡ and_text (so_far sheet.old) (block_text self.now.block) }
     {
         if let Some(cents) = self.block {
-            sheet.field::<Price>(cents);
-            sheet.byte(b'\n');
+            sheet.line::<Price>(&[cents]);
         }
     }
 

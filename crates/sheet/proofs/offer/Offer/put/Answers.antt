@@ -5,7 +5,7 @@ use Rattle.sheet.proofs.Writes.{lines_length, lines_buffer}
 use Rattle.sheet.proofs.offer.Offer.put.Goals as goal
 
 pub returns-clause-length : goal.returns-clause-length
-returns-clause-length c = c.length.ensures ∙ lines_length (record { ref_ptr = c.args.buffer.ref_ptr; ghost_name = _; now = _ }) (saved_lines (facts c.args.self.now)) _ _ c.new-sheet.ensures c.put_lines.ensures.lines
+returns-clause-length c = c.length.ensures ∙ lines_length (saved_lines (facts c.args.self.now)) c.new-sheet.ensures c.put_lines.ensures.lines
 
 pub returns-clause-buffer : goal.returns-clause-buffer
-returns-clause-buffer c = λ small fits. let e = lines_buffer (record { ref_ptr = c.args.buffer.ref_ptr; ghost_name = _; now = _ }) (saved_lines (facts c.args.self.now)) _ _ c.new-sheet.ensures c.put_lines.ensures.lines small fits in search rules
+returns-clause-buffer c = λ small fits. let whole = lines_buffer (saved_lines (facts c.args.self.now)) c.new-sheet.ensures c.put_lines.ensures.lines small fits in search rules
