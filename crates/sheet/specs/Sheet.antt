@@ -1,6 +1,6 @@
 -- A sheet, line by line: the form of each line, then its values, marks, order and part month. Assumes nothing.
 use Rattle.std.specs.Prelude.{ℕ, zero, suc, ◌+◌, Bool, true, cond, not, ◌&&◌, ◌||◌, leb, List, [], ◌∷◌, map, length, is_some, Some, None, Ok, Err, codes, Option, Result, ◌==◌, nat_eq, nat_le, nat_lt, slice_index}
-use Rattle.std.specs.List.{range_with_len}
+use Rattle.std.specs.List.{list_all, range_with_len}
 use Rattle.std.specs.Option.{ok_or}
 use Rattle.text.specs.Form.{Reads, between, field, ended, whole, price, line_of, keyed, named}
 use Rattle.sheet.specs.declared.product.Product.{Product}
@@ -45,8 +45,7 @@ agreeing fault agree reads l text = do
   Ok (x, rest)
 
 abbrev pub every : {X : Type 0} → (X → Bool) → List X → Bool
-every test [] = true
-every test (x ∷ xs) = test x && every test xs
+every test xs = list_all test xs
 
 -- each is tied to the next
 abbrev pub chain : (ℕ → ℕ → Bool) → List ℕ → Bool

@@ -36,11 +36,11 @@ impl SheetFault {
         ensures { result ≡ (number_and_place self).1 }
     {
         match self {
-            SheetFault::Form(line) => line,
-            SheetFault::Value(line) => line,
-            SheetFault::Marks(line) => line,
-            SheetFault::Order(line) => line,
-            SheetFault::PartMonth(line) => line,
+            SheetFault::Form(line)
+            | SheetFault::Value(line)
+            | SheetFault::Marks(line)
+            | SheetFault::Order(line)
+            | SheetFault::PartMonth(line) => line,
         }
     }
 
