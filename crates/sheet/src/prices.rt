@@ -18,6 +18,7 @@ const HIGHEST_PRICE: u64 = 10_000_000;
 /// The highest price of a block, in cents.
 const HIGHEST_BLOCK: u64 = 100_000_000;
 
+#[tactic(auto, using(crate::proofs::Judged::prices_small))]
 /// The prices of a period, in cents.
 fn read_row(reader: &mut Reader, ranges: usize) -> Result<PerRange, SheetFault>
     requires near { reader.old.line < most_lines }

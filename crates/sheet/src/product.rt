@@ -16,7 +16,7 @@ const RAPID_DOMAX: u32 = 120;
 const COMPLEMENTARY_DOMAX: u32 = 90;
 
 /// The two kinds of reserve.
-#[derive(Clone, Copy, PartialEq)]
+#[derive(Clone, Copy, Debug, PartialEq, Eq)]
 pub enum Product {
     /// RR, the rapid reserve.
     Rapid,

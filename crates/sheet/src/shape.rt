@@ -58,6 +58,7 @@ fn widths_fit(widths: &[u64], floor: u32) -> bool
     all_between(widths, 1, WIDEST) && widths[0] == u64::from(floor) && total(widths) <= WIDEST
 }
 
+#[tactic(auto, using(crate::proofs::Judged::widths_small))]
 /// The width of each range, in MW.
 pub(crate) fn read_widths(
     reader: &mut Reader,
