@@ -4,6 +4,7 @@ pub mod Each
 pub mod Examples
 pub mod Judged
 pub mod Kept
+pub mod Keyword
 pub mod LinesBack
 pub mod Periods
 pub mod Placed
