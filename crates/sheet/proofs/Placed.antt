@@ -6,8 +6,7 @@ use Rattle.std.proofs.lemmas.List.{append_assoc, append-nil, length_push, length
 use Rattle.std.proofs.lemmas.Bool.{eq-eqb, ne_eqb}
 use Rattle.std.specs.List.{range_with_len, AllByRecursion}
 use Rattle.sheet.specs.declared.fault.SheetFault.{SheetFault}
-use Rattle.sheet.specs.declared.offer.PerRange.{PerRange}
-use Rattle.sheet.specs.Facts.{numbers_of, row_facts}
+use Rattle.sheet.specs.Facts.{PerRange, numbers_of, row_facts}
 use Rattle.sheet.specs.Limits.{most_periods}
 use Rattle.sheet.specs.Read.{month_rows}
 use Rattle.sheet.specs.Sheet.{◌>>=◌, chain, price_line, price_lines, row_of}

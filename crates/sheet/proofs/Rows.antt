@@ -2,8 +2,7 @@
 use Rattle.std.proofs.Common.{◌≡◌, ℕ, ◌+◌, List, [], ◌∷◌, map, length, is_some, Some, None, Option, refl, arith}
 use Rattle.std.specs.List.{count_by}
 use Rattle.std.proofs.lemmas.List.Sums.{sum_by_from}
-use Rattle.sheet.specs.declared.offer.PerRange.{PerRange}
-use Rattle.sheet.specs.Facts.{row_facts}
+use Rattle.sheet.specs.Facts.{PerRange, row_facts}
 use Rattle.sheet.specs.Sheet.{priced}
 
 pub priced_length : (t : ℕ) (rows : List (Option PerRange)) → length (priced t (map row_facts rows)) ≡ count_by is_some rows

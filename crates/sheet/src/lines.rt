@@ -15,7 +15,11 @@ impl Offer {
         ensures value { result ≡ length (priced 1 (facts self.now).rows) }
         ensures bound { result ≤ 11 }
     {
-        self.rows().iter().filter(|row| row.is_some()).count() as u32
+        self.rows
+            .as_slice()
+            .iter()
+            .filter(|row| row.is_some())
+            .count() as u32
     }
 
     /// How many lines its sheet has.

@@ -7,7 +7,7 @@ ghost use Rattle.sheet.specs.Read.{month_rows, most_lines, says_to};
 ghost use Rattle.sheet.specs.Sheet.{block_line, chain, itself, price_line as price_line_of};
 
 use crate::fault::SheetFault;
-use crate::offer::{MOST_PERIODS, PerRange};
+use crate::offer::{MOST_PERIODS, PerRange, per_range};
 use crate::reader::Reader;
 use crate::values::{all_between, never_falling};
 use text::{closing_price, price_line};
@@ -34,7 +34,7 @@ fn read_row(reader: &mut Reader, ranges: usize) -> Result<PerRange, SheetFault>
     if !never_falling(prices) {
         return Err(SheetFault::Order(reader.line));
     }
-    Ok(PerRange::of(prices))
+    Ok(per_range(prices))
 }
 
 /// The prices of each priced period, each at its period's place, counted from the month's first.

@@ -71,7 +71,7 @@ impl Offer {
         ensures value { result.now ≡ prices_at (facts self.now) place }
         ensures few { length result.now ≤ 4 }
     {
-        match self.rows().get(place) {
+        match self.rows.as_slice().get(place) {
             Some(Some(prices)) => prices.as_slice(),
             _ => &[],
         }

@@ -11,6 +11,7 @@ use crate::offer::{MOST_PERIODS, Name, Offer, PerRange};
 use crate::prices::{read_block, read_rows};
 use crate::reader::Reader;
 use crate::shape::{read_periods, read_shape, read_widths};
+use short_list::ShortList;
 
 /// The offer that these lines make, in a month of so many periods.
 fn offer_of(
@@ -20,19 +21,19 @@ fn offer_of(
     periods: usize,
     block: Option<u32>,
 ) -> Offer
-    requires { length head.name.now ≤ longest_name }
+    requires few { periods ≤ most_periods }
+    requires short { length head.name.now ≤ longest_name }
     ensures { facts result ≡ by_month periods (head_says head.entry) (numbers_of widths) (map row_facts rows) block }
 {
     Offer {
-        name: Name::of(head.name),
+        name: Name::from_slice(head.name),
         number: head.number,
         floor: head.floor,
         product: head.product,
         observed: head.observed,
         short: head.short,
         widths,
-        rows,
-        periods,
+        rows: ShortList::from_slice(&rows[..periods]),
         block,
     }
 }

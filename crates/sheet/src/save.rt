@@ -39,7 +39,7 @@ impl Offer {
     fn put_periods(&self, sheet: &mut Writer<'_>)
         ensures { so_far sheet.new ≡ and_text (so_far sheet.old) (line_text (map (λ p. decimal p.0) (priced 1 (facts self.now).rows))) }
     {
-        for (place, row) in self.rows().iter().enumerate() {
+        for (place, row) in self.rows.as_slice().iter().enumerate() {
             if row.is_some() {
                 sheet.field::<Whole>(place as u32 + 1);
             }
@@ -51,7 +51,7 @@ impl Offer {
     fn put_rows(&self, sheet: &mut Writer<'_>)
         ensures { so_far sheet.new ≡ and_text (so_far sheet.old) (concat (map (λ p. line_text (map price_text p.1)) (priced 1 (facts self.now).rows))) }
     {
-        for row in self.rows() {
+        for row in self.rows.as_slice() {
             if let Some(prices) = row {
                 sheet.line::<Price>(prices.as_slice());
             }

@@ -8,7 +8,7 @@ ghost use Rattle.sheet.specs.Sheet.{period_line, shape_line, width_line, widths_
 ghost use Rattle.text.specs.Lines.{values_of};
 
 use crate::fault::SheetFault;
-use crate::offer::{MOST_RANGES, PerRange};
+use crate::offer::{MOST_RANGES, PerRange, per_range};
 use crate::reader::Reader;
 use crate::values::{all_between, rising, total};
 use text::{Values, number_line};
@@ -76,7 +76,7 @@ pub(crate) fn read_widths(
     if !widths_fit(widths, floor) {
         return Err(SheetFault::Value(reader.line));
     }
-    Ok(PerRange::of(widths))
+    Ok(per_range(widths))
 }
 
 /// The priced periods.
