@@ -1,31 +1,15 @@
--- The prices of a period, as an offer answers them, and sums of widths.
-use Rattle.std.proofs.Common.{◌≡◌, ℕ, ◌+◌, ◌<◌, ◌≤◌, List, [], map, length, get_or, drop, Some, None, Option, sym, ap, ◌∙◌, arith}
-use Rattle.std.proofs.lemmas.List.{get_or-map, get_or_past, length-map, at_drop_more, at_drop_all}
-use Rattle.sheet.specs.declared.offer.PerRange.{PerRange}
-use Rattle.sheet.specs.Facts.{numbers_of, row_facts}
-use Rattle.sheet.specs.Offer.{listed, total}
+-- Sums of widths.
+use Rattle.std.proofs.Common.{◌≡◌, ℕ, suc, ◌+◌, ◌*◌, ◌≤◌, List, [], ◌∷◌, length, get_or, sum, Fits, w32, refl, sym, ap, ◌∙◌, arith}
+use Rattle.std.proofs.lemmas.List.Sums.{sum_by-cons}
+use Rattle.sheet.specs.Offer.{total}
 
-module _ (kept : List (Option PerRange)) (rows : List (Option (List ℕ))) (same : map row_facts kept ≡ rows) (place : ℕ) where
-  pub none_past : length kept ≤ place → [] ≡ listed (get_or rows place None)
-  none_past past =
-      let over : length (map row_facts kept) ≤ place = rw (length-map kept row_facts) past in
-      ap listed (sym (get_or_past (map row_facts kept) place None over)) ∙ ap (λ rs. listed (get_or rs place None)) same
+pub total_sum : (widths : List ℕ) → total widths ≡ sum widths
+total_sum [] = refl
+total_sum (width ∷ widths) = ap (λ n. width + n) (total_sum widths) ∙ sym (sum_by-cons (λ x. x) width widths)
 
-  here : place < length kept → listed (row_facts (get_or kept place None)) ≡ listed (get_or rows place None)
-  here within = ap listed (sym (get_or-map row_facts kept place None None within)) ∙ ap (λ rs. listed (get_or rs place None)) same
-
-  pub priced_here : (prices : PerRange) → place < length kept → get_or kept place None ≡ Some prices → numbers_of prices ≡ listed (get_or rows place None)
-  priced_here prices within is = ap (λ r. listed (row_facts r)) (sym is) ∙ here within
-
-  pub none_here : place < length kept → get_or kept place None ≡ None → [] ≡ listed (get_or rows place None)
-  none_here within is = ap (λ r. listed (row_facts r)) (sym is) ∙ here within
-
-pub total_more : (widths : List ℕ) (i all width : ℕ) → i < length widths → width ≡ get_or widths i 0 → all + total (drop i widths) ≡ total widths → all + width + total (drop (i + 1) widths) ≡ total widths
-total_more widths i all width within is so_far =
-    let more : total (drop i widths) ≡ get_or widths i 0 + total (drop (i + 1) widths) = at_drop_more total widths i 0 within in
-    omega arith
-
-pub total_all : (widths : List ℕ) (i all : ℕ) → length widths ≤ i → all + total (drop i widths) ≡ total widths → all ≡ total widths
-total_all widths i all past so_far =
-    let none : total (drop i widths) ≡ 0 = at_drop_all total widths i past in
-    omega arith
+pub total_most : (widths : List ℕ) → ((i : ℕ) → Fits w32 (get_or widths i 0)) → total widths ≤ length widths * 4294967296
+total_most [] small = omega arith
+total_most (width ∷ widths) small =
+    let rest = total_most widths (λ i. small (suc i)) in
+    let here = small 0 in
+    omega (arith, rest, here)

@@ -1,8 +1,10 @@
 -- The values of a line, judged one after another.
-use Rattle.std.proofs.Common.{◌≡◌, ℕ, ◌+◌, ◌-◌, ◌^◌, ◌<◌, ◌≤◌, Bool, true, false, ◌&&◌, eqb, leb, ◌⊎◌, List, [], ◌∷◌, length, get_or, drop, sym, refl, ap, ◌∙◌, arith}
-use Rattle.std.proofs.lemmas.List.{drop_more, drop_all, length-drop}
-use Rattle.std.proofs.lemmas.Bool.{and_parts, le-leb}
-use Rattle.std.specs.List.{AllByRecursion}
+use Rattle.std.proofs.Common.{◌≡◌, ℕ, zero, suc, sum, ◌*◌, ◌^◌, ◌<◌, ◌≤◌, Bool, true, false, ◌&&◌, eqb, leb, List, [], ◌∷◌, length, get_or, sym, refl, add-one, arith}
+use Rattle.std.proofs.lemmas.List.Recursion.{is_sum_by}
+use Rattle.std.proofs.lemmas.Bool.{and_from, and_left, and_parts, and_right}
+use Rattle.std.proofs.lemmas.List.Sums.{sum_by-le}
+use Rattle.std.proofs.ByRecursion.{All-get_or}
+use Rattle.std.specs.List.{AllByRecursion, IsAllAdjacentAnswer}
 use Rattle.text.proofs.FormKeeps.{within_from}
 use Rattle.sheet.specs.Limits.{widest, highest_price}
 use Rattle.sheet.proofs.Each.{all_from_every}
@@ -10,55 +12,29 @@ use Rattle.text.specs.Form.{between}
 use Rattle.sheet.specs.Offer.{total}
 use Rattle.sheet.specs.Sheet.{every, chain, widths_fit}
 
-module _ (test : ℕ → Bool) (xs : List ℕ) (i : ℕ) where
-  pub every_here : i < length xs → every test (drop i xs) ≡ (test (get_or xs i 0) && every test (drop (i + 1) xs))
-  every_here h = ap (every test) (drop_more xs i 0 h)
+-- what a test of each with the next answered
+pub chain_answered : (tied : ℕ → ℕ → Bool) (xs : List ℕ) (r : Bool) → IsAllAdjacentAnswer (λ x y b. b ≡ tied x y) xs r → r ≡ chain tied xs
+chain_answered tied xs true h = all_tied xs (λ k d lt. rw add-one at (h k d (omega arith)))
+  where
+    all_tied : (xs : List ℕ) → ((k d : ℕ) → suc k < length xs → true ≡ tied (get_or xs k d) (get_or xs (suc k) d)) → true ≡ chain tied xs
+    all_tied [] h = refl
+    all_tied (x ∷ []) h = refl
+    all_tied (x ∷ y ∷ ys) h = sym (and_from (tied x y) (chain tied (y ∷ ys)) (sym (h 0 0 (omega arith))) (sym (all_tied (y ∷ ys) (λ k d lt. h (suc k) d (omega arith)))))
+chain_answered tied xs false h = one_not xs h.0 (omega (arith, h.1)) (λ d. rw add-one at (h.2 d))
+  where
+    one_not : (xs : List ℕ) (k : ℕ) → suc k < length xs → ((d : ℕ) → false ≡ tied (get_or xs k d) (get_or xs (suc k) d)) → false ≡ chain tied xs
+    one_not [] k lt h = absurd (omega arith)
+    one_not (x ∷ []) k lt h = absurd (omega arith)
+    one_not (x ∷ y ∷ ys) zero lt h = sym (and_left (tied x y) (chain tied (y ∷ ys)) (sym (h 0)))
+    one_not (x ∷ y ∷ ys) (suc k) lt h = sym (and_right (tied x y) (chain tied (y ∷ ys)) (sym (one_not (y ∷ ys) k (omega arith) h)))
 
-  pub every_fails : i < length xs → test (get_or xs i 0) ≡ false → every test (drop i xs) ≡ false
-  every_fails h e = every_here h ∙ ap (λ t. t && every test (drop (i + 1) xs)) e
+pub total-sum : (xs : List ℕ) → total xs ≡ sum xs
+total-sum xs = is_sum_by total (λ x. x) refl (λ _ _. refl) xs
 
-  pub every_next : i < length xs → test (get_or xs i 0) ≡ true → every test (drop (i + 1) xs) ≡ every test (drop i xs)
-  every_next h e = sym (every_here h ∙ ap (λ t. t && every test (drop (i + 1) xs)) e)
-
-  pub every_ends : length xs ≤ i → every test (drop i xs) ≡ true
-  every_ends h = ap (every test) (drop_all i xs h)
-
-pub outside : (low high n : ℕ) → (n < low) ⊎ (high < n) → between low high n ≡ false
-outside low high n h = grind arith
-
-pub inside : (low high n : ℕ) → low ≤ n → n ≤ high → between low high n ≡ true
-inside low high n lo hi = rw (le-leb low n lo, le-leb n high hi) refl
-
--- the places i - 1 and i, from 1 on
-module _ (tied : ℕ → ℕ → Bool) (xs : List ℕ) (i : ℕ) where
-  chain_here : 1 ≤ i → i < length xs → chain tied (drop (i - 1) xs) ≡ (tied (get_or xs (i - 1) 0) (get_or xs i 0) && chain tied (drop i xs))
-  chain_here some h =
-      let next : i - 1 + 1 ≡ i = omega arith in
-      let here = drop_more xs i 0 h in
-      ap (chain tied) (drop_more xs (i - 1) 0 (omega arith) ∙ ap (λ k. get_or xs (i - 1) 0 ∷ drop k xs) next ∙ ap (λ l. get_or xs (i - 1) 0 ∷ l) here)
-      ∙ ap (λ l. tied (get_or xs (i - 1) 0) (get_or xs i 0) && chain tied l) (sym here)
-
-  pub chain_fails : 1 ≤ i → i < length xs → tied (get_or xs (i - 1) 0) (get_or xs i 0) ≡ false → chain tied (drop (i - 1) xs) ≡ false
-  chain_fails some h e = chain_here some h ∙ ap (λ t. t && chain tied (drop i xs)) e
-
-  pub chain_next : 1 ≤ i → i < length xs → tied (get_or xs (i - 1) 0) (get_or xs i 0) ≡ true → chain tied (drop (i + 1 - 1) xs) ≡ chain tied (drop (i - 1) xs)
-  chain_next some h e = ap (λ k. chain tied (drop k xs)) (omega arith) ∙ sym (chain_here some h ∙ ap (λ t. t && chain tied (drop i xs)) e)
-
-  pub chain_ends : length xs ≤ i → chain tied (drop (i - 1) xs) ≡ true
-  chain_ends h = short (drop (i - 1) xs) (omega (arith, length-drop (i - 1) xs))
-    where
-      short : (ys : List ℕ) → length ys ≤ 1 → chain tied ys ≡ true
-      short [] le = refl
-      short (y ∷ []) le = refl
-      short (y ∷ z ∷ ys) le = absurd (omega arith)
-
--- ---- a sum so far, and what is left
-
-pub total_here : (xs : List ℕ) (i : ℕ) → i < length xs → total (drop i xs) ≡ get_or xs i 0 + total (drop (i + 1) xs)
-total_here xs i h = ap total (drop_more xs i 0 h)
-
-pub total_ends : (xs : List ℕ) (i : ℕ) → length xs ≤ i → total (drop i xs) ≡ 0
-total_ends xs i h = ap total (drop_all i xs h)
+pub sum_small : (xs : List ℕ) → length xs ≤ 11 → AllByRecursion (λ v. v < 10 ^ 10) xs → sum xs < 2 ^ 64
+sum_small xs few all =
+    let most : sum xs ≤ length xs * 10 ^ 10 = sum_by-le (λ x. x) (10 ^ 10) xs (λ k d lt. let here = All-get_or (λ v. v < 10 ^ 10) xs k d lt all in omega arith) in
+    omega (arith, most)
 
 -- ---- values that were judged fit their place
 

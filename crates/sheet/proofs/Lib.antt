@@ -4,11 +4,11 @@ pub mod Each
 pub mod Examples
 pub mod Judged
 pub mod Kept
+pub mod Keyword
 pub mod LinesBack
 pub mod Periods
 pub mod Placed
-pub mod Puts
 pub mod Rows
 pub mod Saves
 pub mod SheetKeeps
-pub mod Short
+pub mod Writes

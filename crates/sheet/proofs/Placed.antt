@@ -6,8 +6,7 @@ use Rattle.std.proofs.lemmas.List.{append_assoc, append-nil, length_push, length
 use Rattle.std.proofs.lemmas.Bool.{eq-eqb, ne_eqb}
 use Rattle.std.specs.List.{range_with_len, AllByRecursion}
 use Rattle.sheet.specs.declared.fault.SheetFault.{SheetFault}
-use Rattle.sheet.specs.declared.offer.PerRange.{PerRange}
-use Rattle.sheet.specs.Facts.{numbers_of, row_facts}
+use Rattle.sheet.specs.Facts.{PerRange, numbers_of, row_facts}
 use Rattle.sheet.specs.Limits.{most_periods}
 use Rattle.sheet.specs.Read.{month_rows}
 use Rattle.sheet.specs.Sheet.{◌>>=◌, chain, price_line, price_lines, row_of}
@@ -67,84 +66,82 @@ then_twice : (done : List (List ℕ)) (row : List ℕ) (r : Result (List (List �
 then_twice done row (Err f) = refl
 then_twice done row (Ok (rows, rest)) = ap (λ l. Ok (l, rest)) (sym (append_assoc done (row ∷ []) rows))
 
--- of the rows of these periods, those before i stand in the table, and the rest follows
-pub record SoFar (n : ℕ) (periods : List ℕ) (line : ℕ) (text : List ℕ) (i : ℕ) (table : List (Option PerRange)) (next : ℕ) (rest : List ℕ) : Type 0 where
+-- of the rows of these periods, those before i stand in the table, and the rest follows the line that was read last
+pub record SoFar (n : ℕ) (periods : List ℕ) (before : ℕ) (text : List ℕ) (i : ℕ) (table : List (Option PerRange)) (last : ℕ) (rest : List ℕ) : Type 0 where
   pub done : List (List ℕ)
   pub count : length done ≡ i
   pub room : length table ≡ most_periods
-  pub at : next ≡ line + i
-  pub read : price_lines n (length periods) line text ≡ then_rows done (price_lines n (length periods - i) (line + i) rest)
+  pub at : last ≡ before + i
+  pub read : price_lines n (length periods) (before + 1) text ≡ then_rows done (price_lines n (length periods - i) (last + 1) rest)
   pub placed : map row_facts table ≡ map (row_of (take i periods) done) (range_with_len 1 most_periods)
 
-pub none_yet : (n : ℕ) (periods : List ℕ) (line : ℕ) (text : List ℕ) (table : List (Option PerRange)) → table ≡ None ∷ None ∷ None ∷ None ∷ None ∷ None ∷ None ∷ None ∷ None ∷ None ∷ None ∷ [] → SoFar n periods line text 0 table line text
-none_yet n periods line text table e = record {
+pub none_yet : (n : ℕ) (periods : List ℕ) (before : ℕ) (text : List ℕ) (table : List (Option PerRange)) → table ≡ None ∷ None ∷ None ∷ None ∷ None ∷ None ∷ None ∷ None ∷ None ∷ None ∷ None ∷ [] → SoFar n periods before text 0 table before text
+none_yet n periods before text table e = record {
   done = [];
   count = refl;
   room = ap length e;
-  at = sym (add-zero line);
-  read = rw (add-zero line, sub-zero (length periods)) (then_none (price_lines n (length periods) line text));
+  at = sym (add-zero before);
+  read = rw (sub-zero (length periods)) (then_none (price_lines n (length periods) (before + 1) text));
   placed = ap (map row_facts) e;
 }
 
--- a row at line l, and k rows more from line m on
-abbrev row_then : (n k l m : ℕ) → List ℕ → Result (List (List ℕ) × List ℕ) SheetFault
-row_then n k l m rest = price_line n l rest >>= λ p. price_lines n k m p.1 >>= λ q. Ok (p.0 ∷ q.0, q.1)
+-- a row at line l, and k rows more
+abbrev row_then : (n k l : ℕ) → List ℕ → Result (List (List ℕ) × List ℕ) SheetFault
+row_then n k l rest = price_line n l rest >>= λ p. price_lines n k (l + 1) p.1 >>= λ q. Ok (p.0 ∷ q.0, q.1)
 
-module _ (n : ℕ) (periods : List ℕ) (line : ℕ) (text : List ℕ) (i : ℕ) (table : List (Option PerRange)) (next : ℕ) (rest : List ℕ) (so_far : SoFar n periods line text i table next rest) where
-  one_more : i < length periods → price_lines n (length periods - i) (line + i) rest ≡ row_then n (length periods - (i + 1)) next (line + (i + 1)) rest
-  one_more h =
-      let left : length periods - i ≡ suc (length periods - (i + 1)) = omega arith in
-      let here : line + i ≡ next = omega (arith, so_far.at) in
-      let after : line + i + 1 ≡ line + (i + 1) = omega arith in
-      ap (λ k. price_lines n k (line + i) rest) left
-      ∙ ap (λ l. row_then n (length periods - (i + 1)) (line + i) l rest) after
-      ∙ ap (λ l. row_then n (length periods - (i + 1)) l (line + (i + 1)) rest) here
+module _ {n : ℕ} {periods : List ℕ} {before : ℕ} {text : List ℕ} {i : ℕ} {table : List (Option PerRange)} {last : ℕ} {rest : List ℕ} (so_far : SoFar n periods before text i table last rest) where
+  one_more : i < length periods → price_lines n (length periods - i) (last + 1) rest ≡ row_then n (length periods - (i + 1)) (last + 1) rest
+  one_more h = let left : length periods - i ≡ suc (length periods - (i + 1)) = omega arith in ap (λ k. price_lines n k (last + 1) rest) left
 
-  pub row_stops : (f : SheetFault) → i < length periods → Err f ≡ price_line n next rest → Err f ≡ month_rows n periods line text
-  row_stops f h e =
-      let none : price_lines n (length periods - i) (line + i) rest ≡ Err f = one_more h ∙ rw (← e) refl in
-      let all : price_lines n (length periods) line text ≡ Err f = so_far.read ∙ ap (then_rows so_far.done) none in
-      rw all refl
+  -- the row at the next line
+  module _ {next : ℕ} (h : i < length periods) (counts : next ≡ last + 1) where
+    pub row_stops : {f : SheetFault} → Err f ≡ price_line n next rest → Err f ≡ month_rows n periods (before + 1) text
+    row_stops {f} e =
+        let here : Err f ≡ price_line n (last + 1) rest = e ∙ ap (λ l. price_line n l rest) counts in
+        let none : price_lines n (length periods - i) (last + 1) rest ≡ Err f = one_more h ∙ rw (← here) refl in
+        let all : price_lines n (length periods) (before + 1) text ≡ Err f = so_far.read ∙ ap (then_rows so_far.done) none in
+        rw all refl
 
-  module _ (prices : PerRange) (after : List ℕ) where
-    read_more : i < length periods → Ok (numbers_of prices, after) ≡ price_line n next rest → price_lines n (length periods) line text ≡ then_rows (so_far.done ++ numbers_of prices ∷ []) (price_lines n (length periods - (i + 1)) (line + (i + 1)) after)
-    read_more h e =
-        let others = price_lines n (length periods - (i + 1)) (line + (i + 1)) after in
-        let first : price_lines n (length periods - i) (line + i) rest ≡ then_rows (numbers_of prices ∷ []) others = one_more h ∙ rw (← e) (made others) in
-        so_far.read ∙ ap (then_rows so_far.done) first ∙ then_twice so_far.done (numbers_of prices) others
-      where
-        made : (r : Result (List (List ℕ) × List ℕ) SheetFault) → (r >>= λ q. Ok (numbers_of prices ∷ q.0, q.1)) ≡ then_rows (numbers_of prices ∷ []) r
-        made (Err f) = refl
-        made (Ok q) = refl
+    module _ (prices : PerRange) (after : List ℕ) where
+      read_more : Ok (numbers_of prices, after) ≡ price_line n next rest → price_lines n (length periods) (before + 1) text ≡ then_rows (so_far.done ++ numbers_of prices ∷ []) (price_lines n (length periods - (i + 1)) (next + 1) after)
+      read_more e =
+          let here : Ok (numbers_of prices, after) ≡ price_line n (last + 1) rest = e ∙ ap (λ l. price_line n l rest) counts in
+          let others = price_lines n (length periods - (i + 1)) (last + 1 + 1) after in
+          let first : price_lines n (length periods - i) (last + 1) rest ≡ then_rows (numbers_of prices ∷ []) others = one_more h ∙ rw (← here) (made others) in
+          rw counts (so_far.read ∙ ap (then_rows so_far.done) first ∙ then_twice so_far.done (numbers_of prices) others)
+        where
+          made : (r : Result (List (List ℕ) × List ℕ) SheetFault) → (r >>= λ q. Ok (numbers_of prices ∷ q.0, q.1)) ≡ then_rows (numbers_of prices ∷ []) r
+          made (Err f) = refl
+          made (Ok q) = refl
 
-    placed_more : i < length periods → chain ltb periods ≡ true → 1 ≤ get_or periods i 0 → get_or periods i 0 ≤ most_periods → map row_facts (set table (get_or periods i 0 - 1) (Some prices)) ≡ map (row_of (take (i + 1) periods) (so_far.done ++ numbers_of prices ∷ [])) (range_with_len 1 most_periods)
-    placed_more h rising low high =
-        let p = get_or periods i 0 in
-        let row = numbers_of prices in
-        let qs = take i periods in
-        let ds = so_far.done in
-        let long : length ds ≡ length qs = so_far.count ∙ sym (length-take-le i periods (omega arith)) in
-        let f : ℕ → Option (List ℕ) = row_of qs ds in
-        let g : ℕ → Option (List ℕ) = row_of (qs ++ p ∷ []) (ds ++ row ∷ []) in
-        let here : 1 + (p - 1) ≡ p = omega arith in
-        map-set row_facts table (p - 1) (Some prices)
-        ∙ ap (λ l. set l (p - 1) (Some row)) so_far.placed
-        ∙ found_set f g 1 most_periods (p - 1) (Some row) (omega arith) (ap g here ∙ row_of_last p row qs ds long (rising_below periods i rising h)) (λ t ne. row_of_other p row t (λ e. ne (e ∙ sym here)) qs ds long)
-        ∙ ap (λ l. map (row_of l (ds ++ row ∷ [])) (range_with_len 1 most_periods)) (sym (take_more periods i 0 h))
+      placed_more : chain ltb periods ≡ true → 1 ≤ get_or periods i 0 → get_or periods i 0 ≤ most_periods → map row_facts (set table (get_or periods i 0 - 1) (Some prices)) ≡ map (row_of (take (i + 1) periods) (so_far.done ++ numbers_of prices ∷ [])) (range_with_len 1 most_periods)
+      placed_more rising low high =
+          let p = get_or periods i 0 in
+          let row = numbers_of prices in
+          let qs = take i periods in
+          let ds = so_far.done in
+          let long : length ds ≡ length qs = so_far.count ∙ sym (length-take-le i periods (omega arith)) in
+          let f : ℕ → Option (List ℕ) = row_of qs ds in
+          let g : ℕ → Option (List ℕ) = row_of (qs ++ p ∷ []) (ds ++ row ∷ []) in
+          let here : 1 + (p - 1) ≡ p = omega arith in
+          map-set row_facts table (p - 1) (Some prices)
+          ∙ ap (λ l. set l (p - 1) (Some row)) so_far.placed
+          ∙ found_set f g 1 most_periods (p - 1) (Some row) (omega arith) (ap g here ∙ row_of_last p row qs ds long (rising_below periods i rising h)) (λ t ne. row_of_other p row t (λ e. ne (e ∙ sym here)) qs ds long)
+          ∙ ap (λ l. map (row_of l (ds ++ row ∷ [])) (range_with_len 1 most_periods)) (sym (take_more periods i 0 h))
 
-    pub row_more : i < length periods → chain ltb periods ≡ true → 1 ≤ get_or periods i 0 → get_or periods i 0 ≤ most_periods → Ok (numbers_of prices, after) ≡ price_line n next rest → SoFar n periods line text (i + 1) (set table (get_or periods i 0 - 1) (Some prices)) (next + 1) after
-    row_more h rising low high e = record {
-      done = so_far.done ++ numbers_of prices ∷ [];
-      count = length_push so_far.done (numbers_of prices) ∙ ap (λ k. k + 1) so_far.count;
-      room = length-set table (get_or periods i 0 - 1) (Some prices) ∙ so_far.room;
-      at = omega (arith, so_far.at);
-      read = read_more h e;
-      placed = placed_more h rising low high;
-    }
+      pub row_more : chain ltb periods ≡ true → (1 ≤ get_or periods i 0) × (get_or periods i 0 ≤ most_periods) → Ok (numbers_of prices, after) ≡ price_line n next rest → SoFar n periods before text (i + 1) (set table (get_or periods i 0 - 1) (Some prices)) next after
+      row_more rising inside e = record {
+        done = so_far.done ++ numbers_of prices ∷ [];
+        count = length_push so_far.done (numbers_of prices) ∙ ap (λ k. k + 1) so_far.count;
+        room = length-set table (get_or periods i 0 - 1) (Some prices) ∙ so_far.room;
+        at = omega (arith, so_far.at);
+        read = read_more e;
+        placed = placed_more rising inside.0 inside.1;
+      }
 
-  pub rows_all : length periods ≤ i → Ok (map row_facts table, rest) ≡ month_rows n periods line text
+  pub rows_all : length periods ≤ i → Ok (map row_facts table, rest) ≡ month_rows n periods (before + 1) text
   rows_all h =
       let none : length periods - i ≡ 0 = omega arith in
-      let all : price_lines n (length periods) line text ≡ Ok (so_far.done, rest) = so_far.read ∙ ap (λ k. then_rows so_far.done (price_lines n k (line + i) rest)) none ∙ ap (λ l. Ok (l, rest)) (append-nil so_far.done) in
+      let all : price_lines n (length periods) (before + 1) text ≡ Ok (so_far.done, rest) = so_far.read ∙ ap (λ k. then_rows so_far.done (price_lines n k (last + 1) rest)) none ∙ ap (λ l. Ok (l, rest)) (append-nil so_far.done) in
       let same : map row_facts table ≡ map (row_of periods so_far.done) (range_with_len 1 most_periods) = so_far.placed ∙ ap (λ l. map (row_of l so_far.done) (range_with_len 1 most_periods)) (take_all i periods h) in
       rw all (ap (λ l. Ok (l, rest)) same)

@@ -1,33 +1,41 @@
 -- What the readers of a sheet answer, by its meaning. Assumes nothing.
-use Rattle.std.specs.Prelude.{◌≡◌, ℕ, ◌+◌, ◌≤◌, min, true, List, map, length, take, Ok, Err, Option, Result, nat_lt}
+use Rattle.std.specs.Prelude.{◌≡◌, ℕ, ◌+◌, ◌≤◌, min, true, List, map, length, take, Ok, Err, Option, Result, nat_lt, cond, Some, None, ◌==◌}
 use Rattle.std.specs.Borrow.{Bor}
 use Rattle.std.specs.List.{range_with_len, AllByRecursion}
-use Rattle.text.specs.Form.{◌>>=◌, ended, field, whole}
 use Rattle.sheet.specs.declared.fault.SheetFault.{SheetFault}
 use Rattle.sheet.specs.declared.head.Head.{Head as KeptHead}
 use Rattle.sheet.specs.declared.shape.Shape.{Shape as KeptShape}
 use Rattle.sheet.specs.declared.offer.Offer.{Offer as Kept}
+use Rattle.sheet.specs.declared.product.Product.{Product}
+use Rattle.sheet.specs.declared.product.Product.TheVariants.{Rapid, Complementary}
 use Rattle.sheet.specs.Facts.{facts}
 use Rattle.sheet.specs.Limits.{most_periods}
 use Rattle.sheet.specs.Offer.{Offer}
-use Rattle.sheet.specs.Sheet.{◌>>=◌ as ◌>>>=◌, Line, chain, Head, head, Shape, shape_line, width_line, period_line, price_lines, block_line, row_of}
+use Rattle.sheet.specs.Sheet.{◌>>=◌ as ◌>>>=◌, Line, chain, dmo, Head, head, Shape, shape_line, width_line, period_line, price_lines, block_line, row_of}
 
 -- what a line says, and the text after it
 abbrev pub line_read : {X Y : Type 0} → (X → Y) → Result (X × Bor (List ℕ)) SheetFault → Result (Y × List ℕ) SheetFault
 line_read says (Err f) = Err f
 line_read says (Ok (x, rest)) = Ok (says x, rest.now)
 
--- the number that ends a line, after its keyword
-abbrev pub number_after : Option (List ℕ) → Option (ℕ × List ℕ)
-number_after keyword = keyword >>= ended 10 (field whole)
+-- far above the number of any line of a sheet
+abbrev pub most_lines : ℕ
+most_lines = 70000
+
+-- what a line says, and the text that is then left
+abbrev pub says_to : {X Y : Type 0} → (X → Y) → (rest : List ℕ) → Result X SheetFault → Result (Y × List ℕ) SheetFault
+says_to says rest (Err f) = Err f
+says_to says rest (Ok x) = Ok (says x, rest)
+
+abbrev pub name_says : Bor (List ℕ) × ℕ → List ℕ × ℕ
+name_says (name, number) = (name.now, number)
+
+-- the product on whose sheets a number stands after DMO
+abbrev pub product_of : ℕ → Option Product
+product_of n = cond (n == dmo Rapid) (Some Rapid) (cond (n == dmo Complementary) (Some Complementary) None)
 
 abbrev pub shape_says : KeptShape → Shape
-shape_says s = record { ranges = s.ranges; periods = s.periods; blocks = s.blocks }
-
--- a name and a number, and the text after their line
-abbrev pub identifier_read : Result (Bor (List ℕ) × ℕ × Bor (List ℕ)) SheetFault → Result ((List ℕ × ℕ) × List ℕ) SheetFault
-identifier_read (Err f) = Err f
-identifier_read (Ok (name, number, rest)) = Ok ((name.now, number), rest.now)
+shape_says s = record { ranges = s.ranges; periods = s.periods; blocks = cond s.block 1 0 }
 
 abbrev pub head_says : KeptHead → Head
 head_says h = record { name = h.name.now; number = h.number; floor = h.floor; product = h.product; observed = h.observed; short = h.short }

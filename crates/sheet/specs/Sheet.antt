@@ -1,7 +1,8 @@
 -- A sheet, line by line: the form of each line, then its values, marks, order and part month. Assumes nothing.
-use Rattle.std.specs.Prelude.{ℕ, zero, suc, ◌+◌, Bool, true, cond, not, ◌&&◌, ◌||◌, leb, List, [], ◌∷◌, map, length, is_some, Some, None, Ok, Err, codes, Option, Result, ◌==◌, nat_eq, nat_le, nat_lt, slice_index}
-use Rattle.std.specs.List.{range_with_len}
+use Rattle.std.specs.Prelude.{ℕ, zero, suc, ◌+◌, Bool, true, cond, not, ◌&&◌, ◌||◌, List, [], ◌∷◌, map, length, is_some, Some, None, Ok, codes, Option, Result, ◌==◌, nat_le, nat_lt, slice_index}
+use Rattle.std.specs.List.{list_all, range_with_len}
 use Rattle.std.specs.Option.{ok_or}
+pub use Rattle.text.specs.Judging.{◌>>=◌, ◌>>◌, must}
 use Rattle.text.specs.Form.{Reads, between, field, ended, whole, price, line_of, keyed, named}
 use Rattle.sheet.specs.declared.product.Product.{Product}
 use Rattle.sheet.specs.declared.product.Product.TheVariants.{Rapid, Complementary}
@@ -9,19 +10,6 @@ use Rattle.sheet.specs.declared.fault.SheetFault.{SheetFault}
 use Rattle.sheet.specs.declared.fault.SheetFault.TheVariants.{Form, Value, Marks, Order, PartMonth}
 use Rattle.sheet.specs.Limits.{highest_number, lowest_floor, highest_floor, most_ranges, widest, highest_price, highest_block}
 use Rattle.sheet.specs.Offer.{Offer, total}
-
--- ---- one judgement after another
-
-infixl 10 ◌>>=◌ ◌>>◌
-abbrev pub ◌>>=◌ : {X Y F : Type 0} → Result X F → (X → Result Y F) → Result Y F
-Ok x >>= next = next x
-Err f >>= next = Err f
-
-abbrev pub ◌>>◌ : {Y F : Type 0} → Result (Unit {0}) F → Result Y F → Result Y F
-r >> next = r >>= (λ _. next)
-
-abbrev pub must : {F : Type 0} → Bool → F → Result (Unit {0}) F
-must holds f = cond holds (Ok tt) (Err f)
 
 -- what line l says, and the text after it
 abbrev pub Line : Type 0 → Type 0
@@ -45,8 +33,7 @@ agreeing fault agree reads l text = do
   Ok (x, rest)
 
 abbrev pub every : {X : Type 0} → (X → Bool) → List X → Bool
-every test [] = true
-every test (x ∷ xs) = test x && every test xs
+every test xs = list_all test xs
 
 -- each is tied to the next
 abbrev pub chain : (ℕ → ℕ → Bool) → List ℕ → Bool
@@ -57,7 +44,7 @@ chain tied (x ∷ y ∷ ys) = tied x y && chain tied (y ∷ ys)
 -- ---- lines 1 to 6: who offers, and what
 
 abbrev pub identifier_line : Line (List ℕ × ℕ)
-identifier_line = line named (λ id. leb id.1 highest_number) itself
+identifier_line = line named (λ id. nat_le id.1 highest_number) itself
 
 abbrev pub floor_line : Line ℕ
 floor_line = line (keyed (codes "seuil_minimum;")) (between lowest_floor highest_floor) itself
@@ -74,10 +61,10 @@ domax Rapid = 120
 domax Complementary = 90
 
 abbrev pub domax_line : Product → Line ℕ
-domax_line product = line (keyed (codes "DOmax;")) (λ n. nat_eq n (domax product)) itself
+domax_line product = line (keyed (codes "DOmax;")) (λ n. n == domax product) itself
 
 abbrev pub mark_line : List ℕ → Line Bool
-mark_line keyword = line (keyed keyword) (λ n. leb n 1) (λ n. nat_eq n 1)
+mark_line keyword = line (keyed keyword) (λ n. nat_le n 1) (λ n. n == 1)
 
 pub record Head : Type 0 where
   pub name : List ℕ
@@ -129,7 +116,7 @@ period_line T m = agreeing Order (chain nat_lt) (line (line_of whole m) (every (
 -- ---- the lines of prices, and the block's
 
 abbrev pub price_line : (n : ℕ) → Line (List ℕ)
-price_line n = agreeing Order (chain leb) (line (line_of price n) (every (between 0 highest_price)) itself)
+price_line n = agreeing Order (chain nat_le) (line (line_of price n) (every (between 0 highest_price)) itself)
 
 abbrev pub price_lines : (n m : ℕ) → Line (List (List ℕ))
 price_lines n zero l text = Ok ([], text)
@@ -140,7 +127,7 @@ price_lines n (suc m) l text = do
 
 abbrev pub block_line : (blocks : ℕ) → Line (Option ℕ)
 block_line zero l text = Ok (None, text)
-block_line (suc _) l text = line (ended 10 (field price)) (λ p. leb p highest_block) Some l text
+block_line (suc _) l text = line (ended 10 (field price)) (λ p. nat_le p highest_block) Some l text
 
 -- ---- the sheet
 

@@ -1,13 +1,36 @@
--- Bytes put into a buffer one after another. Assumes nothing.
-use Rattle.std.specs.Prelude.{◌≡◌, ℕ, ◌+◌, ◌≤◌, List, [], ◌∷◌, length, slice_set}
+-- Bytes written one after another into a lent buffer. Assumes nothing.
+use Rattle.std.specs.Prelude.{ℕ, ◌+◌, ◌^◌, cond, List, Some, None, Option, nat_lt, slice_set}
+use Rattle.std.specs.Borrow.{GName, MutBor}
+use Rattle.std.specs.List.{fold}
+use Rattle.sheet.specs.declared.writing.Writer.{Writer}
 
--- the buffer with these bytes from a place on; what falls past its end is not written
-abbrev pub with_bytes : (buffer : List ℕ) → (at : ℕ) → List ℕ → List ℕ
-with_bytes buffer at [] = buffer
-with_bytes buffer at (b ∷ bs) = with_bytes (slice_set buffer at b) (at + 1) bs
+-- what a writer holds: which buffer, what stands in it, and how many bytes were written
+pub record Written : Type 0 where
+  pub slice : GName
+  pub buffer : List ℕ
+  pub length : Option ℕ
 
--- how a text of at most so many bytes was put from a place on: what the buffer holds then, and the place after the text
-pub record Put (text : List ℕ) (most : ℕ) (before : List ℕ) (at : ℕ) (after : List ℕ) (next : ℕ) : Type 0 where
-  pub bytes : after ≡ with_bytes before at text
-  pub place : next ≡ at + length text
-  pub near : next ≤ at + most
+abbrev pub so_far : Writer → Written
+so_far w = record { slice = w.buffer.ghost_name; buffer = w.buffer.now; length = w.length }
+
+-- nothing was written yet
+abbrev pub fresh : MutBor (List ℕ) → Written
+fresh buffer = record { slice = buffer.ghost_name; buffer = buffer.now; length = Some 0 }
+
+-- a number, if it can be counted up to
+abbrev pub counted : ℕ → Option ℕ
+counted n = cond (nat_lt n (2 ^ 64)) (Some n) None
+
+-- one byte more; past the buffer's end it is counted, but not written
+abbrev pub byte_at : Written → Option ℕ → ℕ → Written
+byte_at w None byte = w
+byte_at w (Some place) byte = record { slice = w.slice; buffer = slice_set w.buffer place byte; length = counted (place + 1) }
+
+unfoldable pub and_byte : Written → ℕ → Written
+and_byte w byte = byte_at w w.length byte
+
+abbrev pub and_text : Written → List ℕ → Written
+and_text = fold and_byte
+
+abbrev pub and_lines : Written → List (List ℕ) → Written
+and_lines = fold and_text

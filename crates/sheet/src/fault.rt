@@ -3,7 +3,7 @@ ghost use Rattle.std.specs.Prelude.{◌≡◌};
 ghost use Rattle.sheet.specs.Fault.{number_and_place, save_number_and_place};
 
 /// What is wrong with a text, each with the line at which it is wrong.
-#[derive(Clone, Copy, PartialEq)]
+#[derive(Clone, Copy, Debug, PartialEq, Eq)]
 pub enum SheetFault {
     /// The text breaks the form.
     Form(u32),
@@ -36,11 +36,11 @@ impl SheetFault {
         ensures { result ≡ (number_and_place self).1 }
     {
         match self {
-            SheetFault::Form(line) => line,
-            SheetFault::Value(line) => line,
-            SheetFault::Marks(line) => line,
-            SheetFault::Order(line) => line,
-            SheetFault::PartMonth(line) => line,
+            SheetFault::Form(line)
+            | SheetFault::Value(line)
+            | SheetFault::Marks(line)
+            | SheetFault::Order(line)
+            | SheetFault::PartMonth(line) => line,
         }
     }
 
@@ -53,7 +53,7 @@ impl SheetFault {
 }
 
 /// Why an offer is not saved.
-#[derive(Clone, Copy, PartialEq)]
+#[derive(Clone, Copy, Debug, PartialEq, Eq)]
 pub enum SaveFault {
     /// The buffer is too short for the sheet.
     Space,

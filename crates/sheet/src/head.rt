@@ -1,16 +1,13 @@
 //! Lines 1 to 6 of a sheet: who offers, and what.
-ghost use Rattle.std.specs.Prelude.{◌≡◌, ◌≤◌, length, IfOk, codes};
-ghost use Rattle.std.specs.Option.{ok_or};
-ghost use Rattle.sheet.specs.declared.fault.SheetFault.TheVariants.{Form};
+ghost use Rattle.std.specs.Prelude.{◌≡◌, ◌+◌, ◌<◌, ◌≤◌, length, IfOk};
 ghost use Rattle.sheet.specs.Limits.{longest_name};
-ghost use Rattle.sheet.specs.Read.{head_says, identifier_read, line_read, number_after};
+ghost use Rattle.sheet.specs.Read.{head_says, most_lines, name_says, says_to};
 ghost use Rattle.sheet.specs.Sheet.{domax_line, floor_line, head as head_of, identifier_line, itself, mark_line, product_line};
-ghost use Rattle.text.specs.Tokens.{rest_read};
 
 use crate::fault::SheetFault;
-use crate::keywords::{after_dmo, after_domax, after_floor, after_observed, after_short};
 use crate::product::Product;
-use text::{closing_number, named_line};
+use crate::reader::{Reader, keyed_line};
+use text::named_line;
 
 /// The highest number of an offer.
 const HIGHEST_NUMBER: u64 = 65_535;
@@ -32,113 +29,92 @@ pub(crate) struct Head<'a> {
     pub(crate) short: bool,
 }
 
-/// The name, the offer's number, and what follows their line.
-fn read_identifier<'a>(line: u32, text: &'a [u8]) -> Result<(&'a [u8], u32, &'a [u8]), SheetFault>
-    ensures says { identifier_read result ≡ identifier_line line text.now }
+/// The name and the offer's number.
+fn read_identifier<'a>(reader: &mut Reader<'a>) -> Result<(&'a [u8], u32), SheetFault>
+    requires { reader.old.line < most_lines }
+    ensures counts { reader.new.line ≡ reader.old.line + 1 }
+    ensures says { says_to name_says reader.new.rest.now result ≡ identifier_line reader.new.line reader.old.rest.now }
     ensures few { IfOk result (λ p. length p.0.now ≤ longest_name) }
 {
-    let (name, number, rest) = named_line(text).ok_or(SheetFault::Form(line))?;
+    let named = named_line(reader.rest).map(|(name, number, rest)| ((name, number), rest));
+    let (name, number) = reader.next(named)?;
     if number.value > HIGHEST_NUMBER {
-        return Err(SheetFault::Value(line));
+        return Err(SheetFault::Value(reader.line));
     }
-    Ok((name.bytes, number.value as u32, rest))
-}
-
-/// The number of a line whose keyword stands before `rest`, and what follows the line.
-fn keyed_number<'a>(line: u32, rest: Option<&'a [u8]>) -> Result<(u64, &'a [u8]), SheetFault>
-    ensures { line_read itself result ≡ ok_or (number_after (rest_read rest.entry)) (Form line) }
-{
-    let value = rest.ok_or(SheetFault::Form(line))?;
-    let (number, rest) = closing_number(value).ok_or(SheetFault::Form(line))?;
-    Ok((number.value, rest))
+    Ok((name.bytes, number.value as u32))
 }
 
 /// The floor, in MW.
-fn read_floor<'a>(line: u32, text: &'a [u8]) -> Result<(u32, &'a [u8]), SheetFault>
-    ensures { line_read itself result ≡ floor_line line text.now }
+fn read_floor(reader: &mut Reader) -> Result<u32, SheetFault>
+    requires { reader.old.line < most_lines }
+    ensures counts { reader.new.line ≡ reader.old.line + 1 }
+    ensures says { says_to itself reader.new.rest.now result ≡ floor_line reader.new.line reader.old.rest.now }
 {
-    let (floor, rest) = keyed_number(line, after_floor(text))?;
-    if floor < LOWEST_FLOOR || floor > HIGHEST_FLOOR {
-        return Err(SheetFault::Value(line));
+    let floor = reader.next(keyed_line(b"seuil_minimum;", reader.rest))?;
+    if !(LOWEST_FLOOR..=HIGHEST_FLOOR).contains(&floor) {
+        return Err(SheetFault::Value(reader.line));
     }
-    Ok((floor as u32, rest))
+    Ok(floor as u32)
 }
 
 /// What is offered.
-fn read_product<'a>(line: u32, text: &'a [u8]) -> Result<(Product, &'a [u8]), SheetFault>
-    ensures { line_read itself result ≡ product_line line text.now }
+fn read_product(reader: &mut Reader) -> Result<Product, SheetFault>
+    requires { reader.old.line < most_lines }
+    ensures counts { reader.new.line ≡ reader.old.line + 1 }
+    ensures says { says_to itself reader.new.rest.now result ≡ product_line reader.new.line reader.old.rest.now }
 {
-    let (dmo, rest) = keyed_number(line, after_dmo(text))?;
-    if dmo == u64::from(Product::Rapid.dmo()) {
-        return Ok((Product::Rapid, rest));
-    }
-    if dmo == u64::from(Product::Complementary.dmo()) {
-        return Ok((Product::Complementary, rest));
-    }
-    Err(SheetFault::Value(line))
+    let dmo = reader.next(keyed_line(b"DMO;", reader.rest))?;
+    Product::with_dmo(dmo).ok_or(SheetFault::Value(reader.line))
 }
 
 /// The number after `DOmax`, which the product fixes.
-fn read_domax<'a>(
-    product: Product,
-    line: u32,
-    text: &'a [u8],
-) -> Result<(u64, &'a [u8]), SheetFault>
-    ensures { line_read itself result ≡ domax_line product line text.now }
+fn read_domax(reader: &mut Reader, product: Product) -> Result<u64, SheetFault>
+    requires { reader.old.line < most_lines }
+    ensures counts { reader.new.line ≡ reader.old.line + 1 }
+    ensures says { says_to itself reader.new.rest.now result ≡ domax_line product reader.new.line reader.old.rest.now }
 {
-    let (domax, rest) = keyed_number(line, after_domax(text))?;
+    let domax = reader.next(keyed_line(b"DOmax;", reader.rest))?;
     if domax != u64::from(product.domax()) {
-        return Err(SheetFault::Value(line));
+        return Err(SheetFault::Value(reader.line));
     }
-    Ok((domax, rest))
+    Ok(domax)
 }
 
-/// Whether the offer is observed.
-fn read_observed<'a>(line: u32, text: &'a [u8]) -> Result<(bool, &'a [u8]), SheetFault>
-    ensures { line_read itself result ≡ mark_line (codes "Obs_Stat;") line text.now }
+/// Whether the offer is marked so, by the line of this keyword.
+fn read_mark(reader: &mut Reader, keyword: &[u8]) -> Result<bool, SheetFault>
+    requires { reader.old.line < most_lines }
+    ensures counts { reader.new.line ≡ reader.old.line + 1 }
+    ensures says { says_to itself reader.new.rest.now result ≡ mark_line keyword.now reader.new.line reader.old.rest.now }
 {
-    let (mark, rest) = keyed_number(line, after_observed(text))?;
-    if mark > 1 {
-        return Err(SheetFault::Value(line));
+    match reader.next(keyed_line(keyword, reader.rest))? {
+        0 => Ok(false),
+        1 => Ok(true),
+        _ => Err(SheetFault::Value(reader.line)),
     }
-    Ok((mark == 1, rest))
 }
 
-/// Whether the offer is short.
-fn read_short<'a>(line: u32, text: &'a [u8]) -> Result<(bool, &'a [u8]), SheetFault>
-    ensures { line_read itself result ≡ mark_line (codes "DOmin;") line text.now }
+/// The first six lines.
+pub(crate) fn read_head<'a>(reader: &mut Reader<'a>) -> Result<Head<'a>, SheetFault>
+    requires { reader.old.line ≤ 65535 }
+    ensures counts { IfOk result (λ _. reader.new.line ≡ reader.old.line + 6) }
+    ensures says { says_to head_says reader.new.rest.now result ≡ head_of reader.old.line reader.old.rest.now }
+    ensures few { IfOk result (λ h. length h.name.now ≤ longest_name) }
 {
-    let (mark, rest) = keyed_number(line, after_short(text))?;
-    if mark > 1 {
-        return Err(SheetFault::Value(line));
-    }
-    Ok((mark == 1, rest))
-}
-
-/// The first six lines, with so many lines before them, and what follows them.
-pub(crate) fn read_head<'a>(before: u32, text: &'a [u8]) -> Result<(Head<'a>, &'a [u8]), SheetFault>
-    requires { before ≤ 65535 }
-    ensures says { line_read head_says result ≡ head_of before text.now }
-    ensures few { IfOk result (λ p. length p.0.name.now ≤ longest_name) }
-{
-    let (name, number, rest) = read_identifier(before + 1, text)?;
-    let (floor, rest) = read_floor(before + 2, rest)?;
-    let (product, rest) = read_product(before + 3, rest)?;
-    let (_, rest) = read_domax(product, before + 4, rest)?;
-    let (observed, rest) = read_observed(before + 5, rest)?;
-    let (short, rest) = read_short(before + 6, rest)?;
+    let (name, number) = read_identifier(reader)?;
+    let floor = read_floor(reader)?;
+    let product = read_product(reader)?;
+    read_domax(reader, product)?;
+    let observed = read_mark(reader, b"Obs_Stat;")?;
+    let short = read_mark(reader, b"DOmin;")?;
     if observed && short {
-        return Err(SheetFault::Marks(before + 6));
+        return Err(SheetFault::Marks(reader.line));
     }
-    Ok((
-        Head {
-            name,
-            number,
-            floor,
-            product,
-            observed,
-            short,
-        },
-        rest,
-    ))
+    Ok(Head {
+        name,
+        number,
+        floor,
+        product,
+        observed,
+        short,
+    })
 }

@@ -2,29 +2,21 @@
 ghost use Rattle.sheet.specs.Saved.{SavedReadsBack, ReadSavesBack, SaveSaysTheSame, SaveSettles};
 
 /// A saved sheet is read as the same offer, whatever follows it.
-pub fn saved_reads_back() -> u8
+pub fn saved_reads_back()
     ensures { SavedReadsBack }
-{
-    0
-}
+{}
 
 /// A sheet that is read keeps the limits, and its save is read as the same offer.
-pub fn read_saves_back() -> u8
+pub fn read_saves_back()
     ensures { ReadSavesBack }
-{
-    0
-}
+{}
 
 /// A candidate's own text and its save say the same.
-pub fn save_says_the_same() -> u8
+pub fn save_says_the_same()
     ensures { SaveSaysTheSame }
-{
-    0
-}
+{}
 
 /// A save, read and saved again, is the same bytes.
-pub fn save_settles() -> u8
+pub fn save_settles()
     ensures { SaveSettles }
-{
-    0
-}
+{}

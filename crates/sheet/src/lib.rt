@@ -3,7 +3,6 @@
 
 mod fault;
 mod head;
-mod keywords;
 mod laws;
 mod lines;
 mod offer;
@@ -11,6 +10,7 @@ mod prices;
 mod product;
 mod questions;
 mod read;
+mod reader;
 mod save;
 mod shape;
 mod values;

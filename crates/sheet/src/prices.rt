@@ -1,13 +1,14 @@
 //! The lines of prices of a sheet, one for each priced period, and the block's.
-ghost use Rattle.std.specs.Prelude.{◌≡◌, ◌≤◌, true, map, length, nat_lt};
+ghost use Rattle.std.specs.Prelude.{◌≡◌, ◌+◌, ◌<◌, ◌≤◌, true, map, length, nat_lt, IfOk, if◌then◌else◌};
 ghost use Rattle.std.specs.List.{AllByRecursion};
 ghost use Rattle.sheet.specs.Facts.{numbers_of, row_facts};
 ghost use Rattle.sheet.specs.Limits.{most_periods, most_ranges};
-ghost use Rattle.sheet.specs.Read.{line_read, month_rows};
+ghost use Rattle.sheet.specs.Read.{month_rows, most_lines, says_to};
 ghost use Rattle.sheet.specs.Sheet.{block_line, chain, itself, price_line as price_line_of};
 
 use crate::fault::SheetFault;
-use crate::offer::{MOST_PERIODS, PerRange};
+use crate::offer::{MOST_PERIODS, PerRange, per_range};
+use crate::reader::Reader;
 use crate::values::{all_between, never_falling};
 use text::{closing_price, price_line};
 
@@ -17,67 +18,57 @@ const HIGHEST_PRICE: u64 = 10_000_000;
 /// The highest price of a block, in cents.
 const HIGHEST_BLOCK: u64 = 100_000_000;
 
+#[tactic(auto, using(crate::proofs::Judged::prices_small))]
 /// The prices of a period, in cents.
-fn read_row<'a>(
-    ranges: usize,
-    line: u32,
-    text: &'a [u8],
-) -> Result<(PerRange, &'a [u8]), SheetFault>
-    requires { ranges ≤ most_ranges }
-    ensures { line_read numbers_of result ≡ price_line_of ranges line text.now }
+fn read_row(reader: &mut Reader, ranges: usize) -> Result<PerRange, SheetFault>
+    requires near { reader.old.line < most_lines }
+    requires few { ranges ≤ most_ranges }
+    ensures counts { reader.new.line ≡ reader.old.line + 1 }
+    ensures says { says_to numbers_of reader.new.rest.now result ≡ price_line_of ranges reader.new.line reader.old.rest.now }
 {
-    let (values, rest) = price_line(text, ranges).ok_or(SheetFault::Form(line))?;
+    let values = reader.next(price_line(reader.rest, ranges))?;
     let prices = values.as_slice();
     if !all_between(prices, 0, HIGHEST_PRICE) {
-        return Err(SheetFault::Value(line));
+        return Err(SheetFault::Value(reader.line));
     }
     if !never_falling(prices) {
-        return Err(SheetFault::Order(line));
+        return Err(SheetFault::Order(reader.line));
     }
-    Ok((PerRange::of(prices), rest))
+    Ok(per_range(prices))
 }
 
 /// The prices of each priced period, each at its period's place, counted from the month's first.
-pub(crate) fn read_rows<'a>(
+pub(crate) fn read_rows(
+    reader: &mut Reader,
     ranges: usize,
     periods: &[u64],
-    line: u32,
-    text: &'a [u8],
-) -> Result<([Option<PerRange>; MOST_PERIODS], &'a [u8]), SheetFault>
+) -> Result<[Option<PerRange>; MOST_PERIODS], SheetFault>
     requires ranges { ranges ≤ most_ranges }
     requires few { length periods.now ≤ most_periods }
     requires inside { AllByRecursion (λ p. (1 ≤ p) × (p ≤ most_periods)) periods.now }
     requires rising { chain nat_lt periods.now ≡ true }
-    requires near { line ≤ 70000 }
-    ensures { line_read (map row_facts) result ≡ month_rows ranges periods.now line text.now }
+    requires near { reader.old.line + most_periods < most_lines }
+    ensures counts { IfOk result (λ _. reader.new.line ≡ reader.old.line + length periods.now) }
+    ensures says { says_to (map row_facts) reader.new.rest.now result ≡ month_rows ranges periods.now (reader.old.line + 1) reader.old.rest.now }
 {
     let mut rows = [None; MOST_PERIODS];
-    let mut rest = text;
-    let mut next = line;
     for period in periods {
-        let (row, after) = read_row(ranges, next, rest)?;
-        let place = *period as usize - 1;
-        rows[place] = Some(row);
-        rest = after;
-        next += 1;
+        rows[*period as usize - 1] = Some(read_row(reader, ranges)?);
     }
-    Ok((rows, rest))
+    Ok(rows)
 }
 
 /// The block's price, in cents, if there is a block.
-pub(crate) fn read_block<'a>(
-    blocks: u64,
-    line: u32,
-    text: &'a [u8],
-) -> Result<(Option<u32>, &'a [u8]), SheetFault>
-    ensures { line_read itself result ≡ block_line blocks line text.now }
+pub(crate) fn read_block(reader: &mut Reader, block: bool) -> Result<Option<u32>, SheetFault>
+    requires { reader.old.line < most_lines }
+    ensures { says_to itself reader.new.rest.now result ≡ block_line (if block then 1 else 0) (reader.old.line + 1) reader.old.rest.now }
 {
-    if blocks == 0 {
-        return Ok((None, text));
+    if !block {
+        return Ok(None);
     }
-    let (price, rest) = closing_price(text).ok_or(SheetFault::Form(line))?;
+    let price = reader.next(closing_price(reader.rest))?;
     if price.cents > HIGHEST_BLOCK {
-        return Err(SheetFault::Value(line));
+        return Err(SheetFault::Value(reader.line));
     }
-    Ok((Some(price.cents as u32), rest))
+    Ok(Some(price.cents as u32))
 }

@@ -1,6 +1,7 @@
 //! What is offered.
 ghost use Rattle.std.specs.Prelude.{◌≡◌};
 ghost use Rattle.sheet.specs.Sheet.{dmo as dmo_of, domax as domax_of};
+ghost use Rattle.sheet.specs.Read.{product_of};
 
 /// What stands after `DMO` on a sheet of the rapid reserve.
 const RAPID_DMO: u32 = 13;
@@ -15,7 +16,7 @@ const RAPID_DOMAX: u32 = 120;
 const COMPLEMENTARY_DOMAX: u32 = 90;
 
 /// The two kinds of reserve.
-#[derive(Clone, Copy, PartialEq)]
+#[derive(Clone, Copy, Debug, PartialEq, Eq)]
 pub enum Product {
     /// RR, the rapid reserve.
     Rapid,
@@ -31,6 +32,17 @@ impl Product {
         match self {
             Product::Rapid => RAPID_DMO,
             Product::Complementary => COMPLEMENTARY_DMO,
+        }
+    }
+
+    /// The product on whose sheets this number stands after `DMO`, if there is one.
+    pub(crate) fn with_dmo(dmo: u64) -> Option<Product>
+        ensures { result ≡ product_of dmo }
+    {
+        match u32::try_from(dmo) {
+            Ok(RAPID_DMO) => Some(Product::Rapid),
+            Ok(COMPLEMENTARY_DMO) => Some(Product::Complementary),
+            _ => None,
         }
     }
 

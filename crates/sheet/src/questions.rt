@@ -71,13 +71,9 @@ impl Offer {
         ensures value { result.now ≡ prices_at (facts self.now) place }
         ensures few { length result.now ≤ 4 }
     {
-        let rows = self.rows();
-        if place >= rows.len() {
-            return &[];
-        }
-        match &rows[place] {
-            Some(prices) => prices.as_slice(),
-            None => &[],
+        match self.rows.as_slice().get(place) {
+            Some(Some(prices)) => prices.as_slice(),
+            _ => &[],
         }
     }
 
@@ -94,9 +90,5 @@ fn sum(widths: &[u32]) -> u64
     ensures value { result ≡ total widths.now }
     ensures bound { result ≤ 17179869184 }
 {
-    let mut all = 0;
-    for width in widths {
-        all += u64::from(*width);
-    }
-    all
+    widths.iter().map(|width| u64::from(*width)).sum()
 }

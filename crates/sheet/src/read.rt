@@ -2,14 +2,16 @@
 ghost use Rattle.std.specs.Prelude.{◌≡◌, ◌≤◌, map, length};
 ghost use Rattle.sheet.specs.Facts.{facts, numbers_of, row_facts};
 ghost use Rattle.sheet.specs.Limits.{longest_name, most_periods};
-ghost use Rattle.sheet.specs.Read.{alone_read, by_month, head_says, line_read, month_of, read_by_month};
+ghost use Rattle.sheet.specs.Read.{alone_read, by_month, head_says, line_read, month_of, read_by_month, says_to};
 ghost use Rattle.sheet.specs.Sheet.{read, read_alone};
 
 use crate::fault::SheetFault;
 use crate::head::{Head, read_head};
 use crate::offer::{MOST_PERIODS, Name, Offer, PerRange};
 use crate::prices::{read_block, read_rows};
+use crate::reader::Reader;
 use crate::shape::{read_periods, read_shape, read_widths};
+use short_list::ShortList;
 
 /// The offer that these lines make, in a month of so many periods.
 fn offer_of(
@@ -19,41 +21,36 @@ fn offer_of(
     periods: usize,
     block: Option<u32>,
 ) -> Offer
-    requires { length head.name.now ≤ longest_name }
+    requires few { periods ≤ most_periods }
+    requires short { length head.name.now ≤ longest_name }
     ensures { facts result ≡ by_month periods (head_says head.entry) (numbers_of widths) (map row_facts rows) block }
 {
     Offer {
-        name: Name::of(head.name),
+        name: Name::from_slice(head.name),
         number: head.number,
         floor: head.floor,
         product: head.product,
         observed: head.observed,
         short: head.short,
         widths,
-        rows,
-        periods,
+        rows: ShortList::from_slice(&rows[..periods]),
         block,
     }
 }
 
 /// The lines of a sheet, each judged before the next is read.
-fn read_lines<'a>(
-    periods: usize,
-    before: u32,
-    text: &'a [u8],
-) -> Result<(Offer, &'a [u8]), SheetFault>
+fn read_lines(reader: &mut Reader, periods: usize) -> Result<Offer, SheetFault>
     requires few { periods ≤ most_periods }
-    requires near { before ≤ 65535 }
-    ensures { line_read facts result ≡ read_by_month periods before text.now }
+    requires near { reader.old.line ≤ 65535 }
+    ensures { says_to facts reader.new.rest.now result ≡ read_by_month periods reader.old.line reader.old.rest.now }
 {
-    let (head, rest) = read_head(before, text)?;
-    let (shape, rest) = read_shape(periods as u64, before + 7, rest)?;
-    let ranges = shape.ranges as usize;
-    let (widths, rest) = read_widths(ranges, head.floor, before + 8, rest)?;
-    let (priced, rest) = read_periods(periods as u64, shape.periods as usize, before + 9, rest)?;
-    let (rows, rest) = read_rows(ranges, priced.as_slice(), before + 10, rest)?;
-    let (block, rest) = read_block(shape.blocks, before + 10 + shape.periods as u32, rest)?;
-    Ok((offer_of(head, widths, rows, periods, block), rest))
+    let head = read_head(reader)?;
+    let shape = read_shape(reader, periods as u64)?;
+    let widths = read_widths(reader, shape.ranges, head.floor)?;
+    let priced = read_periods(reader, periods as u64, shape.periods)?;
+    let rows = read_rows(reader, shape.ranges, priced.as_slice())?;
+    let block = read_block(reader, shape.block)?;
+    Ok(offer_of(head, widths, rows, periods, block))
 }
 
 /// Reads the sheet at the front of a text, in a month of so many periods and with so many lines before it, and tells what
@@ -66,7 +63,12 @@ pub fn read_sheet<'a>(
 ) -> Result<(Offer, &'a [u8]), SheetFault>
     ensures { line_read facts result ≡ read (month_of periods) lines_before text.now }
 {
-    read_lines(periods.min(MOST_PERIODS), u32::from(lines_before), text)
+    let mut reader = Reader {
+        line: u32::from(lines_before),
+        rest: text,
+    };
+    let offer = read_lines(&mut reader, periods.min(MOST_PERIODS))?;
+    Ok((offer, reader.rest))
 }
 
 /// Reads a text that is one sheet and nothing else.

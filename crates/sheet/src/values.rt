@@ -9,36 +9,21 @@ ghost use Rattle.text.specs.Form.{between};
 pub(crate) fn all_between(values: &[u64], low: u64, high: u64) -> bool
     ensures { result ≡ every (between low high) values.now }
 {
-    for value in values {
-        if *value < low || *value > high {
-            return false;
-        }
-    }
-    true
+    values.iter().all(|value| (low..=high).contains(value))
 }
 
 /// Whether each is above the one before it.
 pub(crate) fn rising(values: &[u64]) -> bool
     ensures { result ≡ chain nat_lt values.now }
 {
-    for i in 1..values.len() {
-        if values[i - 1] >= values[i] {
-            return false;
-        }
-    }
-    true
+    values.is_sorted_by(|one, next| one < next)
 }
 
 /// Whether none is below the one before it.
 pub(crate) fn never_falling(values: &[u64]) -> bool
     ensures { result ≡ chain nat_le values.now }
 {
-    for i in 1..values.len() {
-        if values[i - 1] > values[i] {
-            return false;
-        }
-    }
-    true
+    values.is_sorted_by(|one, next| one <= next)
 }
 
 /// Their sum.
@@ -47,9 +32,5 @@ pub(crate) fn total(values: &[u64]) -> u64
     requires small { AllByRecursion (λ v. v < 10 ^ 10) values.now }
     ensures { result ≡ total_of values.now }
 {
-    let mut sum = 0;
-    for value in values {
-        sum += *value;
-    }
-    sum
+    values.iter().sum()
 }

@@ -1,19 +1,60 @@
-use Rattle.std.proofs.Common.{◌≤◌, ltb, length, sym, ap, ◌∙◌, subst, arith, rules}
+use Rattle.std.proofs.Common.{◌≡◌, ◌+◌, ◌≤◌, length, ap, subst, sym, arith, rules}
 use Rattle.std.specs.List.{AllByRecursion}
 use Rattle.std.proofs.ByRecursion.{All-weaker}
 use Rattle.text.specs.Lines.{values_of}
-use Rattle.sheet.specs.Sheet.{chain}
 use Rattle.sheet.proofs.read.read_lines.Goals as goal
 
-pub read_rows-requires : goal.read_rows-requires
-read_rows-requires c =
-    let fits = c.in_ok-priced.ensures.fits in
-    let same = c.as_slice.ensures.values in
+pub returns-in_err-shape : goal.returns-in_err-shape
+returns-in_err-shape c =
+    let six : c.read_head.new.reader.line ≡ c.args.reader.now.line + 6 = omega (arith, c.in_ok-head.ensures.counts) in
+    let seven : c.read_shape.new.reader.line ≡ c.args.reader.now.line + 7 = omega (arith, c.in_ok-head.ensures.counts) in
+    search rules
+
+pub returns-in_err-widths : goal.returns-in_err-widths
+returns-in_err-widths c =
+    let six : c.read_head.new.reader.line ≡ c.args.reader.now.line + 6 = omega (arith, c.in_ok-head.ensures.counts) in
+    let seven : c.read_shape.new.reader.line ≡ c.args.reader.now.line + 7 = omega (arith, c.in_ok-head.ensures.counts) in
+    let eight : c.read_widths.new.reader.line ≡ c.args.reader.now.line + 8 = omega (arith, c.in_ok-head.ensures.counts) in
+    search rules
+
+pub returns-in_err-priced : goal.returns-in_err-priced
+returns-in_err-priced c =
+    let six : c.read_head.new.reader.line ≡ c.args.reader.now.line + 6 = omega (arith, c.in_ok-head.ensures.counts) in
+    let seven : c.read_shape.new.reader.line ≡ c.args.reader.now.line + 7 = omega (arith, c.in_ok-head.ensures.counts) in
+    let eight : c.read_widths.new.reader.line ≡ c.args.reader.now.line + 8 = omega (arith, c.in_ok-head.ensures.counts) in
+    let nine : c.read_periods.new.reader.line ≡ c.args.reader.now.line + 9 = omega (arith, c.in_ok-head.ensures.counts) in
+    search rules
+
+pub read_rows-requires-clause-inside : goal.read_rows-requires-clause-inside
+read_rows-requires-clause-inside c =
     let periods = values_of c.in_ok-priced.priced in
-    record {
-      ranges = search rules;
-      few = omega (arith, ap length same, fits.long, c.in_ok-shape.ensures.fits.2, c.requires.few);
-      inside = subst (AllByRecursion (λ p. (1 ≤ p) × (p ≤ 11))) (sym same) (All-weaker (λ p. (1 ≤ p) × (p ≤ c.args.periods)) (λ p. (1 ≤ p) × (p ≤ 11)) (λ p h. (h.0, omega (arith, c.requires.few))) periods fits.each);
-      rising = ap (chain ltb) same ∙ fits.rising;
-      near = search rules;
-    }
+    subst (AllByRecursion (λ p. (1 ≤ p) × (p ≤ 11))) (sym c.as_slice.ensures.values) (All-weaker (λ p. (1 ≤ p) × (p ≤ c.args.periods)) (λ p. (1 ≤ p) × (p ≤ 11)) (λ p h. (h.0, omega (arith, c.requires.few))) periods c.in_ok-priced.ensures.fits.each)
+
+pub returns-in_err-rows : goal.returns-in_err-rows
+returns-in_err-rows c =
+    let six : c.read_head.new.reader.line ≡ c.args.reader.now.line + 6 = omega (arith, c.in_ok-head.ensures.counts) in
+    let seven : c.read_shape.new.reader.line ≡ c.args.reader.now.line + 7 = omega (arith, c.in_ok-head.ensures.counts) in
+    let eight : c.read_widths.new.reader.line ≡ c.args.reader.now.line + 8 = omega (arith, c.in_ok-head.ensures.counts) in
+    let nine : c.read_periods.new.reader.line ≡ c.args.reader.now.line + 9 = omega (arith, c.in_ok-head.ensures.counts) in
+    let ten : c.read_periods.new.reader.line + 1 ≡ c.args.reader.now.line + 10 = omega (arith, c.in_ok-head.ensures.counts) in
+    search rules
+
+pub returns-in_err-block : goal.returns-in_err-block
+returns-in_err-block c =
+    let six : c.read_head.new.reader.line ≡ c.args.reader.now.line + 6 = omega (arith, c.in_ok-head.ensures.counts) in
+    let seven : c.read_shape.new.reader.line ≡ c.args.reader.now.line + 7 = omega (arith, c.in_ok-head.ensures.counts) in
+    let eight : c.read_widths.new.reader.line ≡ c.args.reader.now.line + 8 = omega (arith, c.in_ok-head.ensures.counts) in
+    let nine : c.read_periods.new.reader.line ≡ c.args.reader.now.line + 9 = omega (arith, c.in_ok-head.ensures.counts) in
+    let ten : c.read_periods.new.reader.line + 1 ≡ c.args.reader.now.line + 10 = omega (arith, c.in_ok-head.ensures.counts) in
+    let last : c.read_rows.new.reader.line + 1 ≡ c.args.reader.now.line + 10 + c.in_ok-shape.shape.periods = omega (arith, c.in_ok-rows.ensures.counts, ap length c.as_slice.ensures, c.in_ok-priced.ensures.fits.long) in
+    search rules
+
+pub returns : goal.returns
+returns c =
+    let six : c.read_head.new.reader.line ≡ c.args.reader.now.line + 6 = omega (arith, c.in_ok-head.ensures.counts) in
+    let seven : c.read_shape.new.reader.line ≡ c.args.reader.now.line + 7 = omega (arith, c.in_ok-head.ensures.counts) in
+    let eight : c.read_widths.new.reader.line ≡ c.args.reader.now.line + 8 = omega (arith, c.in_ok-head.ensures.counts) in
+    let nine : c.read_periods.new.reader.line ≡ c.args.reader.now.line + 9 = omega (arith, c.in_ok-head.ensures.counts) in
+    let ten : c.read_periods.new.reader.line + 1 ≡ c.args.reader.now.line + 10 = omega (arith, c.in_ok-head.ensures.counts) in
+    let last : c.read_rows.new.reader.line + 1 ≡ c.args.reader.now.line + 10 + c.in_ok-shape.shape.periods = omega (arith, c.in_ok-rows.ensures.counts, ap length c.as_slice.ensures, c.in_ok-priced.ensures.fits.long) in
+    search rules

@@ -1,12 +1,7 @@
-use Rattle.std.proofs.Common.{ltb, sym, ◌∙◌, rules}
-use Rattle.sheet.proofs.Judged.{chain_fails, chain_next, chain_ends}
+use Rattle.std.proofs.Common.{ltb, rules}
+use Rattle.std.proofs.lemmas.List.Sorted.{answers_always}
+use Rattle.sheet.proofs.Judged.{chain_answered}
 use Rattle.sheet.proofs.values.rising.Goals as goal
 
-pub returns-then-values-i : goal.returns-then-values-i
-returns-then-values-i c = sym (chain_fails ltb c.args.values.now c.loop-i.i c.loop-i.auto.i c.loop-i-test.true (search rules)) ∙ c.loop-i.invariant
-
-pub loop-i-preserved : goal.loop-i-preserved
-loop-i-preserved c = chain_next ltb c.args.values.now c.loop-i.i c.loop-i.auto.i c.loop-i-test.true (search rules) ∙ c.loop-i.invariant
-
 pub returns : goal.returns
-returns c = sym (chain_ends ltb c.args.values.now c.loop-i.i c.loop-i-test.false) ∙ c.loop-i.invariant
+returns c = chain_answered ltb c.args.values.now c.is_sorted_by.result (c.is_sorted_by.ensures.cases ltb (answers_always _ _ _ (λ f a r g called. search rules)))

@@ -1,0 +1,52 @@
+//! A text that is read line by line.
+ghost use Rattle.std.specs.Prelude.{◌≡◌, ◌+◌, ◌<◌, IfOk, IfErr, None, Some};
+ghost use Rattle.sheet.specs.declared.fault.SheetFault.TheVariants.{Form};
+ghost use Rattle.sheet.specs.Read.{most_lines};
+ghost use Rattle.text.specs.Form.{after, keyed};
+ghost use Rattle.text.specs.Tokens.{rest_read, value_read};
+
+use crate::fault::SheetFault;
+use text::closing_number;
+
+/// What is left of a text, and the number of the line that was read last.
+#[derive(Drop)]
+pub(crate) struct Reader<'a> {
+    pub(crate) line: u32,
+    pub(crate) rest: &'a [u8],
+}
+
+impl<'a> Reader<'a> {
+    /// What the next line says, as it was read from what is left, and the text goes on after it.
+    pub(crate) fn next<T: Drop>(&mut self, read: Option<(T, &'a [u8])>) -> Result<T, SheetFault>
+        requires { self.old.line < most_lines }
+        ensures counts { self.new.line ≡ self.old.line + 1 }
+        ensures read { IfOk result (λ said. read.entry ≡ Some (said, self.new.rest)) }
+        ensures broken { IfErr result (λ fault. (fault ≡ Form self.new.line) × (read.entry ≡ None)) }
+    {
+        self.line += 1;
+        let (said, rest) = read.ok_or(SheetFault::Form(self.line))?;
+        self.rest = rest;
+        Ok(said)
+    }
+}
+
+#[tactic(auto, using(crate::proofs::Keyword::after_by_test, std::proofs::lemmas::List::take_rest))]
+/// What follows a keyword, given with the semicolon that ends its field.
+fn after<'a>(keyword: &[u8], text: &'a [u8]) -> Option<&'a [u8]>
+    ensures { rest_read result ≡ after keyword.now text.now }
+{
+    if text.starts_with(keyword) {
+        Some(&text[keyword.len()..])
+    } else {
+        None
+    }
+}
+
+/// The number of a line of a keyword, given with its semicolon, and what follows the line.
+pub(crate) fn keyed_line<'a>(keyword: &[u8], text: &'a [u8]) -> Option<(u64, &'a [u8])>
+    ensures { value_read result ≡ keyed keyword.now text.now }
+{
+    let value = after(keyword, text)?;
+    let (number, rest) = closing_number(value)?;
+    Some((number.value, rest))
+}
