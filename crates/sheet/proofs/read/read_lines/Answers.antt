@@ -46,7 +46,7 @@ returns-in_err-block c =
     let eight : c.read_widths.new.reader.line ≡ c.args.reader.now.line + 8 = omega (arith, c.in_ok-head.ensures.counts) in
     let nine : c.read_periods.new.reader.line ≡ c.args.reader.now.line + 9 = omega (arith, c.in_ok-head.ensures.counts) in
     let ten : c.read_periods.new.reader.line + 1 ≡ c.args.reader.now.line + 10 = omega (arith, c.in_ok-head.ensures.counts) in
-    let last : c.read_rows.new.reader.line + 1 ≡ c.args.reader.now.line + 10 + c.in_ok-shape.shape.periods = omega (arith, c.in_ok-rows.ensures.counts, ap length c.as_slice.ensures, c.in_ok-priced.ensures.fits.long) in
+    let last : c.read_rows.new.reader.line + 1 ≡ c.args.reader.now.line + 10 + c.in_ok-shape.shape.periods = omega (arith, c.in_ok-rows.ensures.counts, ap length c.as_slice.ensures.values, c.in_ok-priced.ensures.fits.long) in
     search rules
 
 pub returns : goal.returns
@@ -56,5 +56,5 @@ returns c =
     let eight : c.read_widths.new.reader.line ≡ c.args.reader.now.line + 8 = omega (arith, c.in_ok-head.ensures.counts) in
     let nine : c.read_periods.new.reader.line ≡ c.args.reader.now.line + 9 = omega (arith, c.in_ok-head.ensures.counts) in
     let ten : c.read_periods.new.reader.line + 1 ≡ c.args.reader.now.line + 10 = omega (arith, c.in_ok-head.ensures.counts) in
-    let last : c.read_rows.new.reader.line + 1 ≡ c.args.reader.now.line + 10 + c.in_ok-shape.shape.periods = omega (arith, c.in_ok-rows.ensures.counts, ap length c.as_slice.ensures, c.in_ok-priced.ensures.fits.long) in
+    let last : c.read_rows.new.reader.line + 1 ≡ c.args.reader.now.line + 10 + c.in_ok-shape.shape.periods = omega (arith, c.in_ok-rows.ensures.counts, ap length c.as_slice.ensures.values, c.in_ok-priced.ensures.fits.long) in
     search rules
