@@ -5,7 +5,6 @@ pub mod Deposits
 pub mod Ends
 mod Examples
 pub mod Finding
-pub mod Firsts
 pub mod Fronts
 pub mod Halved
 pub mod InTurn

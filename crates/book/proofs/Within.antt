@@ -1,10 +1,9 @@
 -- What a register's calls make of its offers passes the test of the limits.
-use Rattle.std.proofs.Common.{◌≡◌, ℕ, zero, suc, ◌+◌, true, ◌&&◌, leb, List, [], ◌∷◌, ◌++◌, length, Ok, sum, refl, ap, ◌∙◌, subst, arith}
-use Rattle.std.proofs.lemmas.List.Sums.{sum_by-cons}
+use Rattle.std.proofs.Common.{◌≡◌, ℕ, zero, suc, ◌+◌, true, ◌&&◌, leb, List, [], ◌∷◌, ◌++◌, length, Ok, sum, subst, arith}
 use Rattle.std.proofs.lemmas.Bool.{and_parts, leb-true}
 use Rattle.calendar.specs.Kept.{week_long, sound}
 use Rattle.calendar.specs.Opening.{most_periods}
-use Rattle.sheet.specs.Offer.{Offer, total}
+use Rattle.sheet.specs.Offer.{Offer}
 use Rattle.sheet.specs.Saved.{Fits}
 use Rattle.sheet.specs.Sheet.{read, read_alone, lines}
 use Rattle.book.specs.Deposit.{entering, deposited}
@@ -12,12 +11,9 @@ use Rattle.book.specs.Fault.{of_sheet}
 use Rattle.book.specs.Roll.{stands, others, replaced, beside, admitted, with}
 use Rattle.book.specs.declared.fault.RegisterFault.{RegisterFault}
 use Rattle.book.specs.Within.{within, within_limits, limits_within}
+use Rattle.book.proofs.Adding.{sum_total}
 use Rattle.book.proofs.Limited.{read_fits, alone_fits, limits_none, limits_pushed, limits_with, limits_replaced, limits_others}
 use Rattle.book.proofs.Parts.{bind_parts, ok_same, of_sheet_parts, admitted_parts}
-
-pub sum_total : (xs : List ℕ) → sum xs ≡ total xs
-sum_total [] = refl
-sum_total (x ∷ xs) = sum_by-cons (λ y. y) x xs ∙ ap (λ n. x + n) (sum_total xs)
 
 -- a new register, under the day counts of a calendar
 pub within_none : (days : List ℕ) → sound days ≡ true → within days [] ≡ true

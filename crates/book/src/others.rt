@@ -1,3 +1,5 @@
+ghost use Rattle.std.specs.Prelude.{◌+◌, ◌≤◌, length};
+
 use sheet::Offer;
 
 /// The offers beside which one is judged: those before its place and those after it.
@@ -5,4 +7,5 @@ use sheet::Offer;
 pub struct Others<'a> {
     pub(crate) before: &'a [Offer],
     pub(crate) after: &'a [Offer],
+    ghost few: { length before.now + length after.now ≤ 32 },
 }
