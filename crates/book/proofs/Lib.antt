@@ -7,8 +7,6 @@ mod Examples
 pub mod Finding
 pub mod Fronts
 pub mod Halved
-pub mod InTurn
-pub mod Keeps
 pub mod Known
 pub mod Later
 pub mod Law

@@ -6,7 +6,7 @@ ghost use Rattle.sheet.specs.Offer.{Offer as Facts, total};
 ghost use Rattle.sheet.specs.declared.offer.Offer.{Offer};
 ghost use Rattle.book.specs.Limits.{breadth, count, has_block, ranges};
 ghost use Rattle.book.specs.Roll.{beside, crowded as crowded_of};
-ghost use Rattle.book.specs.Table.{others_of};
+ghost use Rattle.book.specs.Table.{others_of, periods_beside};
 
 use crate::fault::RegisterFault;
 use crate::others::Others;
@@ -71,21 +71,19 @@ impl Others<'_> {
     }
 
     /// The first period in which the candidate of an offer would have too many ranges with it.
-    fn crowded(&self, periods: usize, offer: &Offer) -> Option<u32>
-        requires { periods ≤ 11 }
-        ensures { result ≡ crowded_of periods (others_of self.now) (facts offer.now) }
+    fn crowded(&self, offer: &Offer) -> Option<u32>
+        ensures { result ≡ crowded_of (periods_beside self.now) (others_of self.now) (facts offer.now) }
     {
-        (1..periods + 1)
+        (1..self.calendar.periods() + 1)
             .find(|period| self.ranges_with(offer, *period) > MOST_PAIRS)
             .map(|period| period as u32)
     }
 
-    /// Whether an offer may stand beside these in a month of so many periods.
-    pub(crate) fn judge(&self, periods: usize, offer: &Offer) -> Result<(), RegisterFault>
-        requires { periods ≤ 11 }
-        ensures { result ≡ beside periods (others_of self.now) (facts offer.now) }
+    /// Whether an offer may stand beside these.
+    pub(crate) fn judge(&self, offer: &Offer) -> Result<(), RegisterFault>
+        ensures { result ≡ beside (periods_beside self.now) (others_of self.now) (facts offer.now) }
     {
-        if let Some(period) = self.crowded(periods, offer) {
+        if let Some(period) = self.crowded(offer) {
             return Err(RegisterFault::Pairs(period));
         }
         if self.volume_with(offer) > MOST_VOLUME {
