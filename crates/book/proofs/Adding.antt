@@ -1,31 +1,33 @@
--- A number of each offer, added up.
-use Rattle.std.proofs.Common.{◌≡◌, ℕ, ◌+◌, ◌<◌, ◌≤◌, List, [], ◌∷◌, ◌++◌, map, length, get_or, drop, arith}
-use Rattle.std.proofs.lemmas.List.{at_drop_more, at_drop_all}
+-- A share of each offer, added up.
+use Rattle.std.proofs.Common.{◌≡◌, ℕ, ◌+◌, ◌<◌, Option, fold, List, [], ◌∷◌, ◌++◌, map, sum, refl, ap, ◌∙◌, arith}
+use Rattle.std.proofs.lemmas.List.Sums.{sum_by-cons}
+use Rattle.std.proofs.lemmas.List.{map-append}
+use Rattle.std.specs.Borrow.{Bor}
+use Rattle.std.specs.Iterator.Runs.{WholeRun, EachRunFrom}
+use Rattle.std.specs.Fn.{Mut, FnReturnsAt}
+use denote.Param.Members.{MutLaws, FnLaws}
 use Rattle.sheet.specs.declared.offer.Offer.{Offer as Kept}
 use Rattle.sheet.specs.Facts.{facts}
 use Rattle.sheet.specs.Offer.{Offer, total}
 
--- the number of each offer together
-abbrev pub added : (Offer → ℕ) → List Kept → ℕ
-added f offers = total (map f (map facts offers))
+-- a call of an `Fn` at a reference leaves it as it is
+pub returned_at : {F X R : Type 0} (g : Mut F (Bor X × Unit {0}) R) → MutLaws g → FnLaws g → (f : F) (x : Bor X) (r : R) (f' : F) → g.steps f (x, tt) r f' → (f' ≡ f) × FnReturnsAt g f x.now r
+returned_at g law stays f x r f' step =
+    (stays.step_stays f (x, tt) r f' (record { met = step }), record { shown = x; shows = refl; says = record { met = (law.post_iff f (x, tt) r).1 (f', record { met = step }) } })
 
-module _ (f : Offer → ℕ) (offers : List Kept) (i all : ℕ) where
-  pub added_more : (d : Kept) (share : ℕ) → i < length offers → share ≡ f (facts (get_or offers i d)) → all + added f (drop i offers) ≡ added f offers → all + share + added f (drop (i + 1) offers) ≡ added f offers
-  added_more d share within is so_far =
-      let more : added f (drop i offers) ≡ f (facts (get_or offers i d)) + added f (drop (i + 1) offers) = at_drop_more (added f) offers i d within in
-      omega arith
+-- what a whole run adds up is below what each run stays below
+pub run_below : {S : Type 0} {steps : S → Option ℕ → S → Type 0} {s : S} (r top : ℕ) → WholeRun steps s (λ p. r ≡ fold (λ a x. a + x) 0 p.items) → EachRunFrom steps s (λ p. fold (λ a x. a + x) 0 p.items < top) → r < top
+run_below r top run fits = omega (arith, fits run.0 run.0.seen run.1, run.3)
 
-  pub added_all : length offers ≤ i → all + added f (drop i offers) ≡ added f offers → all ≡ added f offers
-  added_all past so_far =
-      let none : added f (drop i offers) ≡ 0 = at_drop_all (added f) offers i past in
-      omega arith
+-- the sum of std is the crate's own
+pub sum_total : (xs : List ℕ) → sum xs ≡ total xs
+sum_total [] = refl
+sum_total (x ∷ xs) = sum_by-cons (λ y. y) x xs ∙ ap (λ n. x + n) (sum_total xs)
 
-total_split : (f : Offer → ℕ) (xs ys : List Offer) → total (map f (xs ++ ys)) ≡ total (map f xs) + total (map f ys)
-total_split f [] ys = omega arith
-total_split f (x ∷ xs) ys = let rest = total_split f xs ys in omega arith
+map_twice : (of : Offer → ℕ) (offers : List Kept) → map (λ o. of (facts o)) offers ≡ map of (map facts offers)
+map_twice of [] = refl
+map_twice of (o ∷ os) = ap (λ ns. of (facts o) ∷ ns) (map_twice of os)
 
--- an offer with those before it and those after it
-pub added_with : (f : Offer → ℕ) (o : Offer) (before after : List Kept) (own front back : ℕ) → own ≡ f o → front ≡ added f before → back ≡ added f after → own + (front + back) ≡ total (map f (o ∷ (map facts before ++ map facts after)))
-added_with f o before after own front back own_is front_is back_is =
-    let split = total_split f (map facts before) (map facts after) in
-    omega arith
+-- what is added up of the offers before a place and those after it
+pub sum_shares : (of : Offer → ℕ) (before after : List Kept) → sum (map (λ o. of (facts o)) (before ++ after)) ≡ total (map of (map facts before ++ map facts after))
+sum_shares of before after = sum_total _ ∙ ap total (map_twice of (before ++ after) ∙ ap (map of) (map-append facts before after))

@@ -1,5 +1,5 @@
 -- What follows a part that was read is an end of the text.
-use Rattle.std.proofs.Common.{◌≡◌, ℕ, zero, suc, ◌+◌, ◌-◌, ◌*◌, ◌≤◌, Bool, true, false, cond, not, ◌&&◌, eqb, List, [], ◌∷◌, ◌++◌, length, take, drop, Some, None, Ok, Err, codes, Option, Result, sym, refl, ap, ◌∙◌, append_assoc, arith, length-append, take-append-drop}
+use Rattle.std.proofs.Common.{◌≡◌, ℕ, zero, suc, ◌+◌, ◌-◌, ◌*◌, Bool, true, false, cond, not, ◌&&◌, eqb, List, [], ◌∷◌, ◌++◌, length, take, drop, Some, None, Ok, Err, codes, Option, Result, sym, refl, ap, ◌∙◌, append_assoc, arith, length-append, take-append-drop}
 use Rattle.std.specs.Option.{ok_or}
 use Rattle.std.specs.List.{prefix_len}
 use Rattle.text.specs.Form.{Reads, ◌>>=◌, between, after, run, digit, value, needless_zero, number_up_to, whole, cents, decimals, price, ended, field, fields, line_of, keyed, named, name}
@@ -16,9 +16,6 @@ pub tail_on : (text mid rest : List ℕ) → Tail text mid → Tail mid rest →
 tail_on text mid rest h k = (h.0 ++ k.0, h.1 ∙ ap (λ m. h.0 ++ m) k.1 ∙ sym (append_assoc h.0 k.0 rest))
 
 -- the same by its place
-pub tail_shorter : (text rest : List ℕ) → Tail text rest → length rest ≤ length text
-tail_shorter text rest h = omega (arith, ap length h.1, length-append h.0 rest)
-
 drop_front : (front rest : List ℕ) → drop (length front) (front ++ rest) ≡ rest
 drop_front [] rest = refl
 drop_front (x ∷ front) rest = drop_front front rest

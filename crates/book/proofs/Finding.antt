@@ -1,17 +1,11 @@
--- The place of an offer, looked for from the first on.
-use Rattle.std.proofs.Common.{◌≡◌, ℕ, ◌+◌, ◌<◌, ◌≤◌, true, false, List, map, length, get_or, drop, Some, None, sym, refl, ◌∙◌}
-use Rattle.std.proofs.lemmas.List.{at_drop_more, at_drop_all}
+-- The place of an offer among those that are kept.
+use Rattle.std.proofs.Common.{◌≡◌, ℕ, ◌+◌, cond, List, [], ◌∷◌, map, Some, refl, ap}
+use Rattle.std.specs.List.{position_from}
 use Rattle.sheet.specs.declared.offer.Offer.{Offer as Kept}
 use Rattle.sheet.specs.Facts.{facts}
 use Rattle.book.specs.Limits.{is}
 use Rattle.book.specs.Table.{place_from}
 
-module _ (name : List ℕ) (number : ℕ) (offers : List Kept) (i : ℕ) where
-  pub found_here : (d : Kept) → i < length offers → true ≡ is name number (facts (get_or offers i d)) → place_from i name number (map facts (drop i offers)) ≡ Some i
-  found_here d within same = at_drop_more (λ os. place_from i name number (map facts os)) offers i d within ∙ rw (← same) refl
-
-  pub found_later : (d : Kept) → i < length offers → false ≡ is name number (facts (get_or offers i d)) → place_from (i + 1) name number (map facts (drop (i + 1) offers)) ≡ place_from i name number (map facts (drop i offers))
-  found_later d within other = sym (at_drop_more (λ os. place_from i name number (map facts os)) offers i d within ∙ rw (← other) refl)
-
-  pub found_nowhere : length offers ≤ i → place_from i name number (map facts (drop i offers)) ≡ None
-  found_nowhere past = at_drop_all (λ os. place_from i name number (map facts os)) offers i past
+pub position_kept : (name : List ℕ) (number i : ℕ) (offers : List Kept) → position_from (λ o. is name number (facts o)) i offers ≡ place_from i name number (map facts offers)
+position_kept name number i [] = refl
+position_kept name number i (o ∷ os) = ap (λ later. cond (is name number (facts o)) (Some i) later) (position_kept name number (i + 1) os)

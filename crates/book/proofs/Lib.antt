@@ -5,11 +5,8 @@ pub mod Deposits
 pub mod Ends
 mod Examples
 pub mod Finding
-pub mod Firsts
 pub mod Fronts
 pub mod Halved
-pub mod InTurn
-pub mod Keeps
 pub mod Known
 pub mod Later
 pub mod Law

@@ -160,7 +160,3 @@ module _ (T first : ℕ) (text : List ℕ) (starts : Starts) (before : ℕ) (off
           room = room;
           near = omega arith;
         }
-
-pub so_far_all : (T first : ℕ) (text : List ℕ) (starts : Starts) (before : ℕ) (offers : List Offer) (rest : List ℕ) → SoFar T first text starts before offers rest → length rest ≡ 0 → Ok (offers_at T text (places_of starts)) ≡ deposited T first text
-so_far_all T first text starts before offers [] so_far none = ap Ok so_far.told ∙ so_far.judged
-so_far_all T first text starts before offers (b ∷ rest) so_far none = absurd (omega arith)

@@ -10,11 +10,6 @@ use Rattle.book.specs.declared.register.Register.{Register}
 use Rattle.sheet.specs.Offer.{Offer}
 use Rattle.book.specs.declared.fault.RegisterFault.{RegisterFault}
 
--- the list after all sheets have entered, or the refusal
-abbrev pub all_entered : Result (Unit {0}) RegisterFault → List Offer → Result (List Offer) RegisterFault
-all_entered (Ok u) offers = Ok offers
-all_entered (Err fault) offers = Err fault
-
 -- a new register with the list of a deposit, or its refusal, unless there is no memory
 abbrev pub Deposited : Calendar → Result (List Offer) RegisterFault → Result Register DepositFault → Type 0
 Deposited calendar expected (Ok register) =

@@ -1,5 +1,5 @@
 -- What the reading of a deposit answers. Assumes nothing.
-use Rattle.std.specs.Prelude.{◌≡◌, ℕ, List, length, Some, None, Ok, Err, Option, Result}
+use Rattle.std.specs.Prelude.{◌≡◌, ℕ, true, List, length, Some, None, Ok, Err, Option, Result}
 use Rattle.std.specs.Borrow.{Bor}
 use Rattle.std.specs.List.{slice_get}
 use Rattle.calendar.specs.Month.{day_counts}
@@ -10,11 +10,14 @@ use Rattle.sheet.specs.Sheet.{read, lines}
 use Rattle.sheet.specs.declared.offer.Offer.{Offer as Kept}
 use Rattle.book.specs.Fault.{of_sheet}
 use Rattle.book.specs.Limits.{Limits}
-use Rattle.book.specs.Places.{places_of, offers_at}
+use Rattle.book.specs.Places.{places_of, all_begin, offers_at}
 use Rattle.book.specs.Roll.{with}
+use Rattle.book.specs.Table.{days_of as table_days, offers_of}
 use Rattle.book.specs.Within.{within_limits}
 use Rattle.book.specs.declared.deposit.Deposit.{Deposit}
 use Rattle.book.specs.declared.fault.RegisterFault.{RegisterFault}
+use Rattle.book.specs.declared.starts.Starts.{Starts}
+use Rattle.book.specs.declared.table.Table.{Table}
 use Rattle.book.specs.declared.unread.DepositFault.{DepositFault}
 use Rattle.book.specs.declared.unread.DepositFault.TheVariants.{Memory, Register}
 
@@ -30,6 +33,25 @@ sheets_of deposit = offers_at (length (days_of deposit)) deposit.text.now (place
 abbrev pub FirstEnters : (T before : ℕ) → List ℕ → List Offer → Result (ℕ × Bor (List ℕ)) RegisterFault → (after : List Offer) → Type 0
 FirstEnters T before text offers (Err fault) after = (of_sheet (read T before text) >>= (λ s. with T offers s.0)) ≡ Err fault
 FirstEnters T before text offers (Ok told) after = (o : Offer) × (read T before text ≡ Ok (o, told.1.now)) × (with T offers o ≡ Ok after) × (told.0 ≡ lines o)
+
+-- the table that the sheets of a text make, and where they begin
+pub record SheetsEntered (days text : List ℕ) (judged : Result (List Offer) RegisterFault) (table : Table) (starts : Starts) : Type 0 where
+  pub judges : judged ≡ Ok (offers_of table)
+  pub month : table_days table ≡ days
+  pub sheets : all_begin (length days) text (places_of starts) ≡ true
+  pub told : offers_at (length days) text (places_of starts) ≡ offers_of table
+
+-- that table, or the refusal that was judged. Memory may lack at any time
+abbrev pub SheetsRead : (days text : List ℕ) (judged : Result (List Offer) RegisterFault) → Result (Table × Starts) DepositFault → Type 0
+SheetsRead days text judged (Err Memory) = Unit {0}
+SheetsRead days text judged (Err (Register fault)) = judged ≡ Err fault
+SheetsRead days text judged (Ok entered) = SheetsEntered days text judged entered.0 entered.1
+
+-- a deposit of the list that was judged, under these day counts, or the refusal. Memory may lack at any time
+abbrev pub Opened : (days : List ℕ) (judged : Result (List Offer) RegisterFault) → Result Deposit DepositFault → Type 0
+Opened days judged (Err Memory) = Unit {0}
+Opened days judged (Err (Register fault)) = judged ≡ Err fault
+Opened days judged (Ok deposit) = (judged ≡ Ok (sheets_of deposit)) × (days_of deposit ≡ days)
 
 -- a deposit is refused as was judged, and the list stays; or the list is the one judged. Memory may lack at any time
 abbrev pub Deposited : (judged : Result (List Offer) RegisterFault) (before after : List Offer) → Result (Unit {0}) DepositFault → Type 0

@@ -1,19 +1,18 @@
 -- What a register means, and how its calls answer. Assumes nothing.
 use Rattle.std.specs.Prelude.{ℕ, List, length, take, Ok, Err, Result}
-use Rattle.calendar.specs.Month.{day_counts}
 use Rattle.sheet.specs.Facts.{facts}
 use Rattle.sheet.specs.Offer.{Offer}
 use Rattle.sheet.specs.declared.offer.Offer.{Offer as Kept}
 use Rattle.book.specs.Fault.{number_and_place}
 use Rattle.book.specs.Roll.{Roll}
 use Rattle.book.specs.Step.{Answer, accepted, refusal, text_saved}
-use Rattle.book.specs.Table.{offers_of}
+use Rattle.book.specs.Table.{days_of as table_days, offers_of}
 use Rattle.book.specs.declared.fault.RegisterFault.{RegisterFault}
 use Rattle.book.specs.declared.register.Register.{Register}
 
 -- the day count of each period of its month
 abbrev pub days_of : Register → List ℕ
-days_of register = day_counts register.calendar
+days_of register = table_days register.table
 
 -- how many periods its month has
 abbrev pub periods_of : Register → ℕ

@@ -1,6 +1,6 @@
 -- The roll, a plain list of the offers that stand with the needs, and what the clerk's calls make of it. Assumes nothing.
 use Rattle.std.specs.Prelude.{ℕ, ◌-◌, Bool, cond, not, ◌&&◌, ltb, List, [], ◌∷◌, ◌++◌, map, length, replicate, is_some, Some, None, Ok, Err, filter, Option, Result, nat_le, nat_lt, slice_set}
-use Rattle.std.specs.List.{range_with_len}
+use Rattle.std.specs.List.{find, range_with_len}
 use Rattle.std.specs.Option.{ok_or}
 use Rattle.text.specs.Form.{between}
 use Rattle.text.specs.Judging.{◌>>=◌, ◌>>◌, must}
@@ -39,8 +39,7 @@ replaced o offers = map (λ old. cond (is o.name o.number old) o old) offers
 -- ---- an offer beside the others
 
 abbrev pub first_at : (ℕ → Bool) → List ℕ → Option ℕ
-first_at test [] = None
-first_at test (t ∷ ts) = cond (test t) (Some t) (first_at test ts)
+first_at = find
 
 -- the first period in which its candidate would have too many ranges
 abbrev pub crowded : (T : ℕ) → List Offer → Offer → Option ℕ

@@ -2,10 +2,9 @@
 ghost use Rattle.std.specs.Prelude.{◌≡◌, [], length};
 ghost use Rattle.calendar.specs.Month.{day_counts};
 ghost use Rattle.book.specs.Deposit.{deposited};
-ghost use Rattle.book.specs.Reading.{Deposited, days_of, sheets_of};
+ghost use Rattle.book.specs.Reading.{Deposited, Opened, days_of, sheets_of};
 
 use crate::deposit::Deposit;
-use crate::sheets::enter_all;
 use crate::starts::Starts;
 use crate::table::Table;
 use crate::unread::DepositFault;
@@ -25,6 +24,24 @@ impl<'a> Deposit<'a> {
         }
     }
 
+    /// The deposit of the sheets of a text, with so many lines before it. They are refused as a new register would refuse
+    /// them in turn.
+    pub fn open(
+        heap: Global,
+        calendar: Calendar,
+        lines_before: u8,
+        text: &'a [u8],
+    ) -> Result<Deposit<'a>, DepositFault>
+        ensures { Opened (day_counts calendar) (deposited (length (day_counts calendar)) lines_before text.now) result }
+    {
+        let (_, starts) = Table::of_sheets(heap, calendar, lines_before, text)?;
+        Ok(Deposit {
+            calendar,
+            text,
+            starts,
+        })
+    }
+
     /// Takes the sheets of a text, with so many lines before it, in place of those that it had. They are refused as
     /// a new register would refuse them in turn, and the deposit is then as before.
     pub fn read(
@@ -36,11 +53,7 @@ impl<'a> Deposit<'a> {
         ensures sheets { Deposited (deposited (length (days_of self.old)) lines_before text.now) (sheets_of self.old) (sheets_of self.new) result }
         ensures days { days_of self.new ≡ days_of self.old }
     {
-        let periods = self.calendar.periods();
-        let mut table = Table::open(heap)?;
-        let starts = enter_all(&mut table, periods, lines_before, text)?;
-        self.text = text;
-        self.starts = starts;
+        *self = Deposit::open(heap, self.calendar, lines_before, text)?;
         Ok(())
     }
 }

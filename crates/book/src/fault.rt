@@ -1,11 +1,11 @@
 ghost use Rattle.std.specs.Prelude.{◌≡◌};
 ghost use Rattle.book.specs.Fault.{number_and_place};
-ghost use Rattle.book.specs.declared.fault.RegisterFault.TheVariants.{Sheet as BySheet};
+ghost use Rattle.book.specs.declared.fault.RegisterFault.TheVariants.{Sheet as BySheet, Space as NoSpace};
 
-use sheet::SheetFault;
+use sheet::{SaveFault, SheetFault};
 
 /// Why a register refuses a call.
-#[derive(Clone, Copy)]
+#[derive(Clone, Copy, PartialEq)]
 pub enum RegisterFault {
     /// The sheet is refused.
     Sheet(SheetFault),
@@ -36,6 +36,15 @@ impl From<SheetFault> for RegisterFault {
     }
 }
 
+/// A sheet has no room in the buffer.
+impl From<SaveFault> for RegisterFault {
+    ghost from_gives = { λ _ r. r ≡ NoSpace };
+
+    fn from(_fault: SaveFault) -> RegisterFault {
+        RegisterFault::Space
+    }
+}
+
 impl RegisterFault {
     /// The refusal's number.
     pub fn number(self) -> u32
@@ -62,12 +71,7 @@ impl RegisterFault {
             RegisterFault::Sheet(fault) => u64::from(fault.place()),
             RegisterFault::Pairs(period) => u64::from(period),
             RegisterFault::Period(period) => period,
-            RegisterFault::Known => 0,
-            RegisterFault::Unknown => 0,
-            RegisterFault::Full => 0,
-            RegisterFault::Volume => 0,
-            RegisterFault::Blocks => 0,
-            RegisterFault::Space => 0,
+            _ => 0,
         }
     }
 }

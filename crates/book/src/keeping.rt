@@ -1,13 +1,16 @@
 //! The calls on a register.
-ghost use Rattle.std.specs.Prelude.{◌≡◌, ◌≤◌, map, length, IfOk};
+ghost use Rattle.std.specs.Prelude.{◌≡◌, map, length, replicate, IfOk};
 ghost use Rattle.calendar.specs.Month.{day_counts};
 ghost use Rattle.sheet.specs.Sheet.{read_alone as read_alone_of};
 ghost use Rattle.sheet.specs.Facts.{facts};
+ghost use Rattle.sheet.specs.Saved.{Fits};
 ghost use Rattle.book.specs.Fault.{of_sheet};
+ghost use Rattle.book.specs.Needs.{no_need};
 ghost use Rattle.book.specs.Register.{answer_of, days_of, offer_read, periods_of, roll_of, save_answer_of};
 ghost use Rattle.book.specs.Roll.{new as new_roll};
 ghost use Rattle.book.specs.Step.{BufferAfter, Step};
 ghost use Rattle.book.specs.Step.{amend as Amend, enter as Enter, need as SetNeed, save as Save, withdraw as Withdraw};
+ghost use Rattle.book.specs.Table.{days_of as table_days, offers_of, periods_of as periods_in};
 
 use crate::fault::RegisterFault;
 use crate::need::Need;
@@ -18,42 +21,37 @@ use sheet::{Offer, read_alone};
 use std::alloc::{AllocError, Global};
 
 /// The highest need of a product in a period, in MW.
-const HIGHEST_NEED: u64 = 1_000;
+pub const HIGHEST_NEED: u64 = 1_000;
 
 impl Register {
+    /// The register of the offers of a table, with no needs.
+    pub(crate) fn with(table: Table) -> Register
+        ensures days { days_of result ≡ table_days table }
+        ensures roll { roll_of result ≡ record { offers = offers_of table; needs = replicate (periods_in table) no_need } }
+    {
+        Register {
+            table,
+            needs: [Need::default(); MOST_PERIODS],
+        }
+    }
+
     /// A register for a month, empty and with no needs. The room for all its offers is reserved here, and nowhere else is
     /// memory asked for.
     pub fn open(heap: Global, calendar: Calendar) -> Result<Register, AllocError>
         ensures days { IfOk result (λ register. days_of register ≡ day_counts calendar) }
         ensures roll { IfOk result (λ register. roll_of register ≡ new_roll (length (day_counts calendar))) }
     {
-        let table = Table::open(heap)?;
-        let needs = [Need {
-            rapid: 0,
-            complementary: 0,
-        }; MOST_PERIODS];
-        Ok(Register {
-            calendar,
-            table,
-            needs,
-        })
+        Ok(Register::with(Table::open(heap, calendar)?))
     }
 }
 
 impl Register {
-    /// How many periods the month has.
-    fn month(&self) -> usize
-        ensures value { result ≡ periods_of self.now }
-        ensures few { result ≤ 11 }
-    {
-        self.calendar.periods()
-    }
-
     /// The offer that a text tells of as one sheet.
     fn read(&self, text: &[u8]) -> Result<Offer, RegisterFault>
-        ensures { offer_read result ≡ of_sheet (read_alone_of (periods_of self.now) text.now) }
+        ensures offer { offer_read result ≡ of_sheet (read_alone_of (periods_of self.now) text.now) }
+        ensures fits { IfOk result (λ offer. Fits (periods_of self.now) (facts offer)) }
     {
-        Ok(read_alone(self.month(), text)?)
+        Ok(read_alone(self.table.calendar.periods(), text)?)
     }
 
     /// Enters the offer that a sheet tells of, at the end.
@@ -62,8 +60,7 @@ impl Register {
         ensures days { days_of self.new ≡ days_of self.old }
     {
         let offer = self.read(text)?;
-        let periods = self.month();
-        self.table.enter(periods, offer)
+        self.table.enter(offer)
     }
 
     /// Puts the offer that a sheet tells of into the place of the one of its name and number, and touches no other.
@@ -72,8 +69,7 @@ impl Register {
         ensures days { days_of self.new ≡ days_of self.old }
     {
         let offer = self.read(text)?;
-        let periods = self.month();
-        self.table.amend(periods, offer)
+        self.table.amend(offer)
     }
 
     /// Takes the offer of that name and number out, and keeps the order of the others.
@@ -90,7 +86,7 @@ impl Register {
         ensures days { days_of self.new ≡ days_of self.old }
     {
         if period < 1
-            || period > self.month() as u64
+            || period > self.table.calendar.periods() as u64
             || rapid > HIGHEST_NEED
             || complementary > HIGHEST_NEED
         {
@@ -125,6 +121,6 @@ impl Register {
     pub fn calendar(&self) -> &Calendar
         ensures { day_counts result.now ≡ days_of self.now }
     {
-        &self.calendar
+        &self.table.calendar
     }
 }

@@ -25,6 +25,7 @@ mod unread;
 pub use book::Book;
 pub use deposit::Deposit;
 pub use fault::RegisterFault;
+pub use keeping::HIGHEST_NEED;
 pub use laws::{
     deposit_breaks, deposit_enters, deposit_refuses, law_over_runs, limits_kept, next_answered,
     one_answer, one_run,

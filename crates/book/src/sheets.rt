@@ -1,53 +1,56 @@
 //! The sheets of a text enter an empty table in turn.
-ghost use Rattle.std.specs.Prelude.{◌≡◌, ◌≤◌, true, [], IfOk};
+ghost use Rattle.std.specs.Prelude.{◌≡◌, ◌≤◌, length, IfOk};
+ghost use Rattle.calendar.specs.Month.{day_counts};
 ghost use Rattle.book.specs.Deposit.{deposited};
-ghost use Rattle.book.specs.Places.{all_begin, offers_told, places_of};
-ghost use Rattle.book.specs.Reading.{FirstEnters};
-ghost use Rattle.book.specs.Table.{offers_of};
+ghost use Rattle.book.specs.Reading.{FirstEnters, SheetsRead};
+ghost use Rattle.book.specs.Table.{days_of, offers_of, periods_of};
 
 use crate::fault::RegisterFault;
 use crate::starts::Starts;
 use crate::table::Table;
+use crate::unread::DepositFault;
+use calendar::Calendar;
 use sheet::read_sheet;
+use std::alloc::Global;
 
-/// Lets the first sheet of a text enter, and tells its lines and what follows it.
-fn enter_first<'a>(
-    table: &mut Table,
-    periods: usize,
-    lines_before: u16,
-    text: &'a [u8],
-) -> Result<(u32, &'a [u8]), RegisterFault>
-    requires { periods ≤ 11 }
-    ensures entered { FirstEnters periods lines_before text.now (offers_of table.old) result (offers_of table.new) }
-    ensures few { IfOk result (λ told. told.0 ≤ 21) }
-{
-    let (offer, rest) = read_sheet(periods, lines_before, text)?;
-    let lines = offer.lines();
-    table.enter(periods, offer)?;
-    Ok((lines, rest))
-}
-
-/// Lets the sheets of a text enter an empty table, and tells where they begin.
-pub(crate) fn enter_all(
-    table: &mut Table,
-    periods: usize,
-    lines_before: u8,
-    text: &[u8],
-) -> Result<Starts, RegisterFault>
-    requires month { periods ≤ 11 }
-    requires empty { offers_of table.old ≡ [] }
-    ensures value { offers_told periods text.now result ≡ deposited periods lines_before text.now }
-    ensures sheets { IfOk result (λ starts. all_begin periods text.now (places_of starts) ≡ true) }
-{
-    let mut starts = Starts::none();
-    let mut before = u16::from(lines_before);
-    let mut rest = text;
-    while !rest.is_empty() {
-        let place = text.len() - rest.len();
-        let (lines, after) = enter_first(table, periods, before, rest)?;
-        starts.push(place);
-        before += lines as u16;
-        rest = after;
+impl Table {
+    /// Lets the first sheet of a text enter, and tells its lines and what follows it.
+    fn enter_first<'a>(
+        &mut self,
+        lines_before: u16,
+        text: &'a [u8],
+    ) -> Result<(u32, &'a [u8]), RegisterFault>
+        ensures entered { FirstEnters (periods_of self.old) lines_before text.now (offers_of self.old) result (offers_of self.new) }
+        ensures few { IfOk result (λ told. told.0 ≤ 21) }
+        ensures days { days_of self.new ≡ days_of self.old }
+    {
+        let (offer, rest) = read_sheet(self.calendar.periods(), lines_before, text)?;
+        let lines = offer.lines();
+        self.enter(offer)?;
+        Ok((lines, rest))
     }
-    Ok(starts)
+
+    /// The table of a month into which the sheets of a text have entered in turn, with so many lines before them, and
+    /// where they begin.
+    pub(crate) fn of_sheets(
+        heap: Global,
+        calendar: Calendar,
+        lines_before: u8,
+        text: &[u8],
+    ) -> Result<(Table, Starts), DepositFault>
+        ensures { SheetsRead (day_counts calendar) text.now (deposited (length (day_counts calendar)) lines_before text.now) result }
+    {
+        let mut table = Table::open(heap, calendar)?;
+        let mut starts = Starts::none();
+        let mut before = u16::from(lines_before);
+        let mut rest = text;
+        while !rest.is_empty() {
+            let place = text.len() - rest.len();
+            let (lines, after) = table.enter_first(before, rest)?;
+            starts.push(place);
+            before += lines as u16;
+            rest = after;
+        }
+        Ok((table, starts))
+    }
 }

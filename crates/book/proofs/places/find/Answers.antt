@@ -1,18 +1,17 @@
-use Rattle.std.proofs.Common.{sym, ◌∙◌}
-use Rattle.book.proofs.Finding.{found_here, found_later, found_nowhere}
+use Rattle.std.proofs.Common.{◌∙◌, rules, tests}
+use Rattle.std.proofs.lemmas.Iterator.{YieldsList-from_slice}
+use Rattle.std.proofs.lemmas.Iterator.Adapters.{position_from-zero}
+use Rattle.std.proofs.lemmas.Iterator.Search.{position_from_yields_List}
+use Rattle.sheet.specs.Facts.{facts}
+use Rattle.book.specs.Limits.{is}
+use Rattle.book.proofs.Finding.{position_kept}
 use Rattle.book.proofs.places.find.Goals as goal
 
-pub returns-then-is_named : goal.returns-then-is_named
-returns-then-is_named c =
-    record {
-      value = sym (found_here c.args.name.now c.args.number c.args.offers.now c.loop-i.i _ c.loop-i-test.true c.if-is_named.ensures) ∙ c.loop-i.invariant;
-      inside = c.loop-i-test.true;
-    }
-
-pub loop-i-preserved : goal.loop-i-preserved
-loop-i-preserved c =
-    found_later c.args.name.now c.args.number c.args.offers.now c.loop-i.i _ c.loop-i-test.true c.if-is_named.ensures ∙ c.loop-i.invariant
-
-pub returns : goal.returns
-returns c =
-    record { value = sym (found_nowhere c.args.name.now c.args.number c.args.offers.now c.loop-i.i c.loop-i-test.false) ∙ c.loop-i.invariant; inside = tt }
+pub returns-clause-value : goal.returns-clause-value
+returns-clause-value c =
+    let name = c.args.name.now in
+    let number = c.args.number in
+    let offers = c.args.offers.now in
+    position_from_yields_List (λ o. is name number (facts o)) _ _ _ c.position.ensures.ran (YieldsList-from_slice offers cc) (λ x b q k. search (rules, tests))
+    ∙ position_from-zero (λ o. is name number (facts o)) offers
+    ∙ position_kept name number 0 offers

@@ -1,13 +1,10 @@
-use Rattle.std.proofs.Common.{refl, rules}
+use Rattle.std.proofs.Common.{rules}
 use Rattle.book.specs.Register.{periods_of}
 use Rattle.book.specs.Table.{offers_of}
 use Rattle.book.proofs.Steps.{need_set}
 use Rattle.book.proofs.register.Register.need.Goals as goal
 
-pub returns : goal.returns
-returns c =
+pub returns-clause-step : goal.returns-clause-step
+returns-clause-step c =
     let self = c.args.self.now in
-    record {
-      step = need_set (periods_of self) (offers_of self.table) self.needs c.args.period c.args.rapid c.args.complementary (search rules) (search rules) (search rules) (search rules);
-      days = refl;
-    }
+    need_set (periods_of self) (offers_of self.table) self.needs c.args.period c.args.rapid c.args.complementary (search rules) (search rules) (search rules) (search rules)
