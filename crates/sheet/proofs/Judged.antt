@@ -28,8 +28,8 @@ chain_answered tied xs false h = one_not xs h.0 (omega (arith, h.1)) (λ d. rw a
     one_not (x ∷ y ∷ ys) zero lt h = sym (and_left (tied x y) (chain tied (y ∷ ys)) (sym (h 0)))
     one_not (x ∷ y ∷ ys) (suc k) lt h = sym (and_right (tied x y) (chain tied (y ∷ ys)) (sym (one_not (y ∷ ys) k (omega arith) h)))
 
-pub total-sum : (xs : List ℕ) → total xs ≡ sum xs
-total-sum xs = is_sum_by total (λ x. x) refl (λ _ _. refl) xs
+pub total_is_sum : (xs : List ℕ) → total xs ≡ sum xs
+total_is_sum xs = is_sum_by total (λ x. x) refl (λ _ _. refl) xs
 
 pub sum_small : (xs : List ℕ) → length xs ≤ 11 → AllByRecursion (λ v. v < 10 ^ 10) xs → sum xs < 2 ^ 64
 sum_small xs few all =

@@ -1,5 +1,6 @@
 pub mod Asked
 pub mod ByMonth
+pub mod Counted
 pub mod Each
 pub mod Examples
 pub mod Judged

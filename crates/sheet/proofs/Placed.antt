@@ -1,8 +1,7 @@
 -- Rows of prices that are read one after another, each to its period's place.
-use Rattle.std.proofs.Common.{◌≡◌, ℕ, zero, suc, ◌+◌, ◌-◌, ◌<◌, ◌≤◌, true, ltb, List, [], ◌∷◌, ◌++◌, map, length, get_or, take, set, Some, None, Ok, Err, Option, Result, sym, refl, ap, ◌∙◌, add-zero, arith}
-use native.Mathlib.Nat.{sub-zero}
+use Rattle.std.proofs.Common.{◌≡◌, ℕ, zero, suc, ◌+◌, ◌-◌, ◌<◌, ◌≤◌, true, ltb, List, [], ◌∷◌, ◌++◌, map, length, get_or, take, set, Some, Ok, Err, Option, Result, sym, refl, ap, ◌∙◌, add-zero, arith}
 use Rattle.std.proofs.ByRecursion.{All-get_or}
-use Rattle.std.proofs.lemmas.List.{append_assoc, append-nil, length_push, length-set, length-take-le, map-set, take_all, take_more}
+use Rattle.std.proofs.lemmas.List.{append_assoc, length_push, length-set, length-take-le, map-set, take_more}
 use Rattle.std.proofs.lemmas.Bool.{eq-eqb, ne_eqb}
 use Rattle.std.specs.List.{range_with_len, AllByRecursion}
 use Rattle.sheet.specs.declared.fault.SheetFault.{SheetFault}
@@ -58,10 +57,6 @@ abbrev pub then_rows : List (List ℕ) → Result (List (List ℕ) × List ℕ) 
 then_rows done (Err f) = Err f
 then_rows done (Ok (rows, rest)) = Ok (done ++ rows, rest)
 
-then_none : (r : Result (List (List ℕ) × List ℕ) SheetFault) → r ≡ then_rows [] r
-then_none (Err f) = refl
-then_none (Ok p) = refl
-
 then_twice : (done : List (List ℕ)) (row : List ℕ) (r : Result (List (List ℕ) × List ℕ) SheetFault) → then_rows done (then_rows (row ∷ []) r) ≡ then_rows (done ++ row ∷ []) r
 then_twice done row (Err f) = refl
 then_twice done row (Ok (rows, rest)) = ap (λ l. Ok (l, rest)) (sym (append_assoc done (row ∷ []) rows))
@@ -74,16 +69,6 @@ pub record SoFar (n : ℕ) (periods : List ℕ) (before : ℕ) (text : List ℕ)
   pub at : last ≡ before + i
   pub read : price_lines n (length periods) (before + 1) text ≡ then_rows done (price_lines n (length periods - i) (last + 1) rest)
   pub placed : map row_facts table ≡ map (row_of (take i periods) done) (range_with_len 1 most_periods)
-
-pub none_yet : (n : ℕ) (periods : List ℕ) (before : ℕ) (text : List ℕ) (table : List (Option PerRange)) → table ≡ None ∷ None ∷ None ∷ None ∷ None ∷ None ∷ None ∷ None ∷ None ∷ None ∷ None ∷ [] → SoFar n periods before text 0 table before text
-none_yet n periods before text table e = record {
-  done = [];
-  count = refl;
-  room = ap length e;
-  at = sym (add-zero before);
-  read = rw (sub-zero (length periods)) (then_none (price_lines n (length periods) (before + 1) text));
-  placed = ap (map row_facts) e;
-}
 
 -- a row at line l, and k rows more
 abbrev row_then : (n k l : ℕ) → List ℕ → Result (List (List ℕ) × List ℕ) SheetFault
@@ -138,10 +123,3 @@ module _ {n : ℕ} {periods : List ℕ} {before : ℕ} {text : List ℕ} {i : �
         read = read_more e;
         placed = placed_more rising inside.0 inside.1;
       }
-
-  pub rows_all : length periods ≤ i → Ok (map row_facts table, rest) ≡ month_rows n periods (before + 1) text
-  rows_all h =
-      let none : length periods - i ≡ 0 = omega arith in
-      let all : price_lines n (length periods) (before + 1) text ≡ Ok (so_far.done, rest) = so_far.read ∙ ap (λ k. then_rows so_far.done (price_lines n k (last + 1) rest)) none ∙ ap (λ l. Ok (l, rest)) (append-nil so_far.done) in
-      let same : map row_facts table ≡ map (row_of periods so_far.done) (range_with_len 1 most_periods) = so_far.placed ∙ ap (λ l. map (row_of l so_far.done) (range_with_len 1 most_periods)) (take_all i periods h) in
-      rw all (ap (λ l. Ok (l, rest)) same)

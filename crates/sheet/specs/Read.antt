@@ -4,6 +4,7 @@ use Rattle.std.specs.Borrow.{Bor}
 use Rattle.std.specs.List.{range_with_len, AllByRecursion}
 use Rattle.sheet.specs.declared.fault.SheetFault.{SheetFault}
 use Rattle.sheet.specs.declared.head.Head.{Head as KeptHead}
+use Rattle.sheet.specs.declared.reader.Reader.{Reader}
 use Rattle.sheet.specs.declared.shape.Shape.{Shape as KeptShape}
 use Rattle.sheet.specs.declared.offer.Offer.{Offer as Kept}
 use Rattle.sheet.specs.declared.product.Product.{Product}
@@ -18,14 +19,19 @@ abbrev pub line_read : {X Y : Type 0} → (X → Y) → Result (X × Bor (List �
 line_read says (Err f) = Err f
 line_read says (Ok (x, rest)) = Ok (says x, rest.now)
 
--- far above the number of any line of a sheet
-abbrev pub most_lines : ℕ
-most_lines = 70000
-
 -- what a line says, and the text that is then left
 abbrev pub says_to : {X Y : Type 0} → (X → Y) → (rest : List ℕ) → Result X SheetFault → Result (Y × List ℕ) SheetFault
 says_to says rest (Err f) = Err f
 says_to says rest (Ok x) = Ok (says x, rest)
+
+-- far above the number of any line that is read
+abbrev pub most_lines : ℕ
+most_lines = 70000
+
+-- how a reader read its next line: it counts the line, and what it answers means what the line says
+pub record ReadsLine {X Y : Type 0} (meaning : X → Y) (line : Line Y) (before after : Reader) (result : Result X SheetFault) : Type 0 where
+  pub counts : after.line ≡ before.line + 1
+  pub says : says_to meaning after.rest.now result ≡ line after.line before.rest.now
 
 abbrev pub name_says : Bor (List ℕ) × ℕ → List ℕ × ℕ
 name_says (name, number) = (name.now, number)

@@ -1,7 +1,7 @@
 //! Lines 1 to 6 of a sheet: who offers, and what.
 ghost use Rattle.std.specs.Prelude.{◌≡◌, ◌+◌, ◌<◌, ◌≤◌, length, IfOk};
 ghost use Rattle.sheet.specs.Limits.{longest_name};
-ghost use Rattle.sheet.specs.Read.{head_says, most_lines, name_says, says_to};
+ghost use Rattle.sheet.specs.Read.{head_says, ReadsLine, most_lines, name_says, says_to};
 ghost use Rattle.sheet.specs.Sheet.{domax_line, floor_line, head as head_of, identifier_line, itself, mark_line, product_line};
 
 use crate::fault::SheetFault;
@@ -32,12 +32,11 @@ pub(crate) struct Head<'a> {
 /// The name and the offer's number.
 fn read_identifier<'a>(reader: &mut Reader<'a>) -> Result<(&'a [u8], u32), SheetFault>
     requires { reader.old.line < most_lines }
-    ensures counts { reader.new.line ≡ reader.old.line + 1 }
-    ensures says { says_to name_says reader.new.rest.now result ≡ identifier_line reader.new.line reader.old.rest.now }
+    ensures reads { ReadsLine name_says identifier_line reader.old reader.new result }
     ensures few { IfOk result (λ p. length p.0.now ≤ longest_name) }
 {
     let named = named_line(reader.rest).map(|(name, number, rest)| ((name, number), rest));
-    let (name, number) = reader.next(named)?;
+    let (name, number) = reader.advance(named)?;
     if number.value > HIGHEST_NUMBER {
         return Err(SheetFault::Value(reader.line));
     }
@@ -47,10 +46,9 @@ fn read_identifier<'a>(reader: &mut Reader<'a>) -> Result<(&'a [u8], u32), Sheet
 /// The floor, in MW.
 fn read_floor(reader: &mut Reader) -> Result<u32, SheetFault>
     requires { reader.old.line < most_lines }
-    ensures counts { reader.new.line ≡ reader.old.line + 1 }
-    ensures says { says_to itself reader.new.rest.now result ≡ floor_line reader.new.line reader.old.rest.now }
+    ensures { ReadsLine itself floor_line reader.old reader.new result }
 {
-    let floor = reader.next(keyed_line(b"seuil_minimum;", reader.rest))?;
+    let floor = reader.advance(keyed_line(b"seuil_minimum;", reader.rest))?;
     if !(LOWEST_FLOOR..=HIGHEST_FLOOR).contains(&floor) {
         return Err(SheetFault::Value(reader.line));
     }
@@ -60,20 +58,18 @@ fn read_floor(reader: &mut Reader) -> Result<u32, SheetFault>
 /// What is offered.
 fn read_product(reader: &mut Reader) -> Result<Product, SheetFault>
     requires { reader.old.line < most_lines }
-    ensures counts { reader.new.line ≡ reader.old.line + 1 }
-    ensures says { says_to itself reader.new.rest.now result ≡ product_line reader.new.line reader.old.rest.now }
+    ensures { ReadsLine itself product_line reader.old reader.new result }
 {
-    let dmo = reader.next(keyed_line(b"DMO;", reader.rest))?;
+    let dmo = reader.advance(keyed_line(b"DMO;", reader.rest))?;
     Product::with_dmo(dmo).ok_or(SheetFault::Value(reader.line))
 }
 
 /// The number after `DOmax`, which the product fixes.
 fn read_domax(reader: &mut Reader, product: Product) -> Result<u64, SheetFault>
     requires { reader.old.line < most_lines }
-    ensures counts { reader.new.line ≡ reader.old.line + 1 }
-    ensures says { says_to itself reader.new.rest.now result ≡ domax_line product reader.new.line reader.old.rest.now }
+    ensures { ReadsLine itself (domax_line product) reader.old reader.new result }
 {
-    let domax = reader.next(keyed_line(b"DOmax;", reader.rest))?;
+    let domax = reader.advance(keyed_line(b"DOmax;", reader.rest))?;
     if domax != u64::from(product.domax()) {
         return Err(SheetFault::Value(reader.line));
     }
@@ -83,10 +79,9 @@ fn read_domax(reader: &mut Reader, product: Product) -> Result<u64, SheetFault>
 /// Whether the offer is marked so, by the line of this keyword.
 fn read_mark(reader: &mut Reader, keyword: &[u8]) -> Result<bool, SheetFault>
     requires { reader.old.line < most_lines }
-    ensures counts { reader.new.line ≡ reader.old.line + 1 }
-    ensures says { says_to itself reader.new.rest.now result ≡ mark_line keyword.now reader.new.line reader.old.rest.now }
+    ensures { ReadsLine itself (mark_line keyword.now) reader.old reader.new result }
 {
-    match reader.next(keyed_line(keyword, reader.rest))? {
+    match reader.advance(keyed_line(keyword, reader.rest))? {
         0 => Ok(false),
         1 => Ok(true),
         _ => Err(SheetFault::Value(reader.line)),

@@ -3,7 +3,7 @@ ghost use Rattle.std.specs.Prelude.{◌≡◌, ◌+◌, ◌<◌, ◌≤◌, true
 ghost use Rattle.std.specs.List.{AllByRecursion};
 ghost use Rattle.sheet.specs.Facts.{numbers_of, row_facts};
 ghost use Rattle.sheet.specs.Limits.{most_periods, most_ranges};
-ghost use Rattle.sheet.specs.Read.{month_rows, most_lines, says_to};
+ghost use Rattle.sheet.specs.Read.{ReadsLine, month_rows, most_lines, says_to};
 ghost use Rattle.sheet.specs.Sheet.{block_line, chain, itself, price_line as price_line_of};
 
 use crate::fault::SheetFault;
@@ -18,15 +18,14 @@ const HIGHEST_PRICE: u64 = 10_000_000;
 /// The highest price of a block, in cents.
 const HIGHEST_BLOCK: u64 = 100_000_000;
 
-#[tactic(auto, using(crate::proofs::Judged::prices_small))]
 /// The prices of a period, in cents.
+#[tactic(auto, using(crate::proofs::Judged::prices_small))]
 fn read_row(reader: &mut Reader, ranges: usize) -> Result<PerRange, SheetFault>
     requires near { reader.old.line < most_lines }
     requires few { ranges ≤ most_ranges }
-    ensures counts { reader.new.line ≡ reader.old.line + 1 }
-    ensures says { says_to numbers_of reader.new.rest.now result ≡ price_line_of ranges reader.new.line reader.old.rest.now }
+    ensures { ReadsLine numbers_of (price_line_of ranges) reader.old reader.new result }
 {
-    let values = reader.next(price_line(reader.rest, ranges))?;
+    let values = reader.advance(price_line(reader.rest, ranges))?;
     let prices = values.as_slice();
     if !all_between(prices, 0, HIGHEST_PRICE) {
         return Err(SheetFault::Value(reader.line));
@@ -66,7 +65,7 @@ pub(crate) fn read_block(reader: &mut Reader, block: bool) -> Result<Option<u32>
     if !block {
         return Ok(None);
     }
-    let price = reader.next(closing_price(reader.rest))?;
+    let price = reader.advance(closing_price(reader.rest))?;
     if price.cents > HIGHEST_BLOCK {
         return Err(SheetFault::Value(reader.line));
     }

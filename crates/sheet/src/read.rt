@@ -44,10 +44,11 @@ fn read_lines(reader: &mut Reader, periods: usize) -> Result<Offer, SheetFault>
     requires near { reader.old.line ≤ 65535 }
     ensures { says_to facts reader.new.rest.now result ≡ read_by_month periods reader.old.line reader.old.rest.now }
 {
+    let month = periods as u64;
     let head = read_head(reader)?;
-    let shape = read_shape(reader, periods as u64)?;
+    let shape = read_shape(reader, month)?;
     let widths = read_widths(reader, shape.ranges, head.floor)?;
-    let priced = read_periods(reader, periods as u64, shape.periods)?;
+    let priced = read_periods(reader, month, shape.periods)?;
     let rows = read_rows(reader, shape.ranges, priced.as_slice())?;
     let block = read_block(reader, shape.block)?;
     Ok(offer_of(head, widths, rows, periods, block))
@@ -56,6 +57,7 @@ fn read_lines(reader: &mut Reader, periods: usize) -> Result<Offer, SheetFault>
 /// Reads the sheet at the front of a text, in a month of so many periods and with so many lines before it, and tells what
 /// follows it. A month has at most 11 periods: more are taken for 11. The lines before it are those of the sheets that
 /// stand in front of it in one text, which are far fewer than can be counted here.
+#[tactic(auto, using(crate::proofs::ByMonth::same_read))]
 pub fn read_sheet<'a>(
     periods: usize,
     lines_before: u16,

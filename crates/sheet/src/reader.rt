@@ -17,7 +17,7 @@ pub(crate) struct Reader<'a> {
 
 impl<'a> Reader<'a> {
     /// What the next line says, as it was read from what is left, and the text goes on after it.
-    pub(crate) fn next<T: Drop>(&mut self, read: Option<(T, &'a [u8])>) -> Result<T, SheetFault>
+    pub(crate) fn advance<T: Drop>(&mut self, read: Option<(T, &'a [u8])>) -> Result<T, SheetFault>
         requires { self.old.line < most_lines }
         ensures counts { self.new.line ≡ self.old.line + 1 }
         ensures read { IfOk result (λ said. read.entry ≡ Some (said, self.new.rest)) }
@@ -30,8 +30,8 @@ impl<'a> Reader<'a> {
     }
 }
 
-#[tactic(auto, using(crate::proofs::Keyword::after_by_test, std::proofs::lemmas::List::take_rest))]
 /// What follows a keyword, given with the semicolon that ends its field.
+#[tactic(auto, using(crate::proofs::Keyword::after_by_test, std::proofs::lemmas::List::take_rest))]
 fn after<'a>(keyword: &[u8], text: &'a [u8]) -> Option<&'a [u8]>
     ensures { rest_read result ≡ after keyword.now text.now }
 {

@@ -3,7 +3,7 @@ ghost use Rattle.std.specs.Prelude.{◌≡◌, ◌+◌, ◌^◌, ◌<◌, ◌≤
 ghost use Rattle.std.specs.List.{AllByRecursion};
 ghost use Rattle.sheet.specs.Facts.{numbers_of};
 ghost use Rattle.sheet.specs.Limits.{most_periods, most_ranges};
-ghost use Rattle.sheet.specs.Read.{InMonth, most_lines, says_to, shape_says};
+ghost use Rattle.sheet.specs.Read.{InMonth, ReadsLine, most_lines, shape_says};
 ghost use Rattle.sheet.specs.Sheet.{period_line, shape_line, width_line, widths_fit};
 ghost use Rattle.text.specs.Lines.{values_of};
 
@@ -27,11 +27,10 @@ pub(crate) struct Shape {
 /// How many ranges, periods and blocks there are, in a month of so many periods. A block is for the whole month.
 pub(crate) fn read_shape(reader: &mut Reader, month: u64) -> Result<Shape, SheetFault>
     requires { reader.old.line < most_lines }
-    ensures counts { reader.new.line ≡ reader.old.line + 1 }
-    ensures says { says_to shape_says reader.new.rest.now result ≡ shape_line month reader.new.line reader.old.rest.now }
+    ensures reads { ReadsLine shape_says (shape_line month) reader.old reader.new result }
     ensures fits { IfOk result (λ s. (1 ≤ s.ranges) × (s.ranges ≤ most_ranges) × (s.periods ≤ month)) }
 {
-    let counts = reader.next(number_line(reader.rest, 3))?;
+    let counts = reader.advance(number_line(reader.rest, 3))?;
     let [ranges, periods, blocks] = counts.as_slice() else {
         return Err(SheetFault::Form(reader.line));
     };
@@ -58,8 +57,8 @@ fn widths_fit(widths: &[u64], floor: u32) -> bool
     all_between(widths, 1, WIDEST) && widths[0] == u64::from(floor) && total(widths) <= WIDEST
 }
 
-#[tactic(auto, using(crate::proofs::Judged::widths_small))]
 /// The width of each range, in MW.
+#[tactic(auto, using(crate::proofs::Judged::widths_small))]
 pub(crate) fn read_widths(
     reader: &mut Reader,
     ranges: usize,
@@ -68,10 +67,9 @@ pub(crate) fn read_widths(
     requires near { reader.old.line < most_lines }
     requires some { 1 ≤ ranges }
     requires few { ranges ≤ most_ranges }
-    ensures counts { reader.new.line ≡ reader.old.line + 1 }
-    ensures says { says_to numbers_of reader.new.rest.now result ≡ width_line ranges floor reader.new.line reader.old.rest.now }
+    ensures { ReadsLine numbers_of (width_line ranges floor) reader.old reader.new result }
 {
-    let values = reader.next(number_line(reader.rest, ranges))?;
+    let values = reader.advance(number_line(reader.rest, ranges))?;
     let widths = values.as_slice();
     if !widths_fit(widths, floor) {
         return Err(SheetFault::Value(reader.line));
@@ -87,11 +85,10 @@ pub(crate) fn read_periods(
 ) -> Result<Values, SheetFault>
     requires near { reader.old.line < most_lines }
     requires few { count ≤ most_periods }
-    ensures counts { reader.new.line ≡ reader.old.line + 1 }
-    ensures says { says_to values_of reader.new.rest.now result ≡ period_line month count reader.new.line reader.old.rest.now }
+    ensures reads { ReadsLine values_of (period_line month count) reader.old reader.new result }
     ensures fits { IfOk result (λ p. InMonth month count (values_of p)) }
 {
-    let values = reader.next(number_line(reader.rest, count))?;
+    let values = reader.advance(number_line(reader.rest, count))?;
     let periods = values.as_slice();
     if !all_between(periods, 1, month) {
         return Err(SheetFault::Value(reader.line));

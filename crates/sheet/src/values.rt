@@ -27,6 +27,7 @@ pub(crate) fn never_falling(values: &[u64]) -> bool
 }
 
 /// Their sum.
+#[tactic(auto, using(crate::proofs::Judged::sum_small, crate::proofs::Judged::total_is_sum))]
 pub(crate) fn total(values: &[u64]) -> u64
     requires few { length values.now ≤ 11 }
     requires small { AllByRecursion (λ v. v < 10 ^ 10) values.now }
