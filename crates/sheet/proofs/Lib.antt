@@ -12,4 +12,5 @@ pub mod Placed
 pub mod Rows
 pub mod Saves
 pub mod SheetKeeps
+pub mod Short
 pub mod Writes

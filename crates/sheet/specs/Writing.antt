@@ -5,16 +5,16 @@ use Rattle.std.specs.List.{fold}
 use Rattle.sheet.specs.declared.writing.Writer.{Writer}
 
 -- what a writer holds: which buffer, what stands in it, and how many bytes were written
-pub record Written : Type 0 where
+pub record Progress : Type 0 where
   pub slice : GName
   pub buffer : List ℕ
   pub length : Option ℕ
 
-abbrev pub so_far : Writer → Written
+abbrev pub so_far : Writer → Progress
 so_far w = record { slice = w.buffer.ghost_name; buffer = w.buffer.now; length = w.length }
 
 -- nothing was written yet
-abbrev pub fresh : MutBor (List ℕ) → Written
+abbrev pub fresh : MutBor (List ℕ) → Progress
 fresh buffer = record { slice = buffer.ghost_name; buffer = buffer.now; length = Some 0 }
 
 -- a number, if it can be counted up to
@@ -22,15 +22,15 @@ abbrev pub counted : ℕ → Option ℕ
 counted n = cond (nat_lt n (2 ^ 64)) (Some n) None
 
 -- one byte more; past the buffer's end it is counted, but not written
-abbrev pub byte_at : Written → Option ℕ → ℕ → Written
-byte_at w None byte = w
-byte_at w (Some place) byte = record { slice = w.slice; buffer = slice_set w.buffer place byte; length = counted (place + 1) }
+abbrev pub with_byte_at : Progress → Option ℕ → ℕ → Progress
+with_byte_at w None byte = w
+with_byte_at w (Some place) byte = record { slice = w.slice; buffer = slice_set w.buffer place byte; length = counted (place + 1) }
 
-unfoldable pub and_byte : Written → ℕ → Written
-and_byte w byte = byte_at w w.length byte
+unfoldable pub with_byte : Progress → ℕ → Progress
+with_byte w byte = with_byte_at w w.length byte
 
-abbrev pub and_text : Written → List ℕ → Written
-and_text = fold and_byte
+abbrev pub with_text : Progress → List ℕ → Progress
+with_text = fold with_byte
 
-abbrev pub and_lines : Written → List (List ℕ) → Written
-and_lines = fold and_text
+abbrev pub with_lines : Progress → List (List ℕ) → Progress
+with_lines = fold with_text

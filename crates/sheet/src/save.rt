@@ -5,7 +5,7 @@ ghost use Rattle.text.specs.Written.{line_text, price_text};
 ghost use Rattle.sheet.specs.Facts.{facts};
 ghost use Rattle.sheet.specs.Saved.{block_text, buffer_after, save_answer, saved_lines, shape_text, written};
 ghost use Rattle.sheet.specs.Sheet.{priced};
-ghost use Rattle.sheet.specs.Writing.{and_lines, and_text, counted, so_far};
+ghost use Rattle.sheet.specs.Writing.{with_lines, with_text, counted, so_far};
 
 use crate::fault::SaveFault;
 use crate::offer::Offer;
@@ -14,7 +14,7 @@ use crate::writing::{Price, Whole, Writer};
 impl Offer {
     /// Puts the first six lines.
     fn put_head(&self, sheet: &mut Writer<'_>)
-        ensures { so_far sheet.new ≡ and_lines (so_far sheet.old) (take 6 (saved_lines (facts self.now))) }
+        ensures { so_far sheet.new ≡ with_lines (so_far sheet.old) (take 6 (saved_lines (facts self.now))) }
     {
         sheet.named_line(self.name.as_slice(), self.number);
         sheet.named_line(b"seuil_minimum", self.floor);
@@ -26,7 +26,7 @@ impl Offer {
 
     /// Puts the line that says how many ranges, periods and blocks there are.
     fn put_shape(&self, sheet: &mut Writer<'_>)
-        ensures { so_far sheet.new ≡ and_text (so_far sheet.old) (shape_text (facts self.now)) }
+        ensures { so_far sheet.new ≡ with_text (so_far sheet.old) (shape_text (facts self.now)) }
     {
         sheet.line::<Whole>(&[
             self.widths.as_slice().len() as u32,
@@ -37,7 +37,7 @@ impl Offer {
 
     /// Puts the line of the priced periods.
     fn put_periods(&self, sheet: &mut Writer<'_>)
-        ensures { so_far sheet.new ≡ and_text (so_far sheet.old) (line_text (map (λ p. decimal p.0) (priced 1 (facts self.now).rows))) }
+        ensures { so_far sheet.new ≡ with_text (so_far sheet.old) (line_text (map (λ p. decimal p.0) (priced 1 (facts self.now).rows))) }
     {
         for (place, row) in self.rows.as_slice().iter().enumerate() {
             if row.is_some() {
@@ -49,7 +49,7 @@ impl Offer {
 
     /// Puts a line of prices for each priced period.
     fn put_rows(&self, sheet: &mut Writer<'_>)
-        ensures { so_far sheet.new ≡ and_text (so_far sheet.old) (concat (map (λ p. line_text (map price_text p.1)) (priced 1 (facts self.now).rows))) }
+        ensures { so_far sheet.new ≡ with_text (so_far sheet.old) (concat (map (λ p. line_text (map price_text p.1)) (priced 1 (facts self.now).rows))) }
     {
         for row in self.rows.as_slice() {
             if let Some(prices) = row {
@@ -60,7 +60,7 @@ impl Offer {
 
     /// Puts the block's line, if there is a block.
     fn put_block(&self, sheet: &mut Writer<'_>)
-        ensures { so_far sheet.new ≡ and_text (so_far sheet.old) (block_text self.now.block) }
+        ensures { so_far sheet.new ≡ with_text (so_far sheet.old) (block_text self.now.block) }
     {
         if let Some(cents) = self.block {
             sheet.line::<Price>(&[cents]);
@@ -69,7 +69,7 @@ impl Offer {
 
     /// Puts all lines.
     fn put_lines(&self, sheet: &mut Writer<'_>)
-        ensures lines { so_far sheet.new ≡ and_lines (so_far sheet.old) (saved_lines (facts self.now)) }
+        ensures lines { so_far sheet.new ≡ with_lines (so_far sheet.old) (saved_lines (facts self.now)) }
         ensures slice { sheet.new.buffer.ghost_name ≡ sheet.old.buffer.ghost_name }
     {
         self.put_head(sheet);

@@ -1,6 +1,6 @@
 //! Text written into a lent buffer, part by part.
 ghost use Rattle.std.specs.Prelude.{◌≡◌, ℕ, [], ◌∷◌, ◌++◌, List, map, decimal};
-ghost use Rattle.sheet.specs.Writing.{and_text, fresh, so_far};
+ghost use Rattle.sheet.specs.Writing.{with_text, fresh, so_far};
 ghost use Rattle.text.specs.Written.{line_text, price_text};
 
 /// Where a text is written. What does not fit is cut off at the buffer's end, but counted all the same: so what writes a
@@ -31,9 +31,9 @@ impl<'a> Writer<'a> {
     }
 
     /// Puts one byte.
-    #[tactic(auto, unfolding(crate::specs::Writing::and_byte))]
+    #[tactic(auto, unfolding(crate::specs::Writing::with_byte))]
     pub(crate) fn byte(&mut self, byte: u8)
-        ensures { so_far self.new ≡ and_text (so_far self.old) (byte ∷ []) }
+        ensures { so_far self.new ≡ with_text (so_far self.old) (byte ∷ []) }
     {
         if let Some(place) = self.length {
             if place < self.buffer.len() {
@@ -45,26 +45,16 @@ impl<'a> Writer<'a> {
 
     /// Puts bytes one after another.
     pub(crate) fn bytes(&mut self, bytes: &[u8])
-        ensures { so_far self.new ≡ and_text (so_far self.old) bytes.now }
+        ensures { so_far self.new ≡ with_text (so_far self.old) bytes.now }
     {
         for byte in bytes {
             self.byte(*byte);
         }
     }
 
-    /// Puts the digits of a number.
-    pub(crate) fn number(&mut self, number: u32)
-        ensures { so_far self.new ≡ and_text (so_far self.old) (decimal number) }
-    {
-        if number >= 10 {
-            self.number(number / 10);
-        }
-        self.byte(b'0' + (number % 10) as u8);
-    }
-
     /// Puts a number in a field of its own.
     pub(crate) fn field<F: Form>(&mut self, number: u32)
-        ensures { so_far self.new ≡ and_text (so_far self.old) (F.text number ++ 59 ∷ []) }
+        ensures { so_far self.new ≡ with_text (so_far self.old) (F.text number ++ 59 ∷ []) }
     {
         F::put(self, number);
         self.byte(b';');
@@ -72,7 +62,7 @@ impl<'a> Writer<'a> {
 
     /// Puts a line of a word and a number.
     pub(crate) fn named_line(&mut self, word: &[u8], number: u32)
-        ensures { so_far self.new ≡ and_text (so_far self.old) (line_text (word.now ∷ decimal number ∷ [])) }
+        ensures { so_far self.new ≡ with_text (so_far self.old) (line_text (word.now ∷ decimal number ∷ [])) }
     {
         self.bytes(word);
         self.byte(b';');
@@ -82,7 +72,7 @@ impl<'a> Writer<'a> {
 
     /// Puts a line of numbers.
     pub(crate) fn line<F: Form>(&mut self, numbers: &[u32])
-        ensures { so_far self.new ≡ and_text (so_far self.old) (line_text (map F.text numbers.now)) }
+        ensures { so_far self.new ≡ with_text (so_far self.old) (line_text (map F.text numbers.now)) }
     {
         for number in numbers {
             self.field::<F>(*number);
@@ -96,7 +86,7 @@ pub(crate) trait Form {
     ghost text: { ℕ → List ℕ };
 
     fn put(writer: &mut Writer<'_>, number: u32)
-        ensures { so_far writer.new ≡ and_text (so_far writer.old) (Self.text number) };
+        ensures { so_far writer.new ≡ with_text (so_far writer.old) (Self.text number) };
 }
 
 /// By its digits.
@@ -106,7 +96,10 @@ impl Form for Whole {
     ghost text = { decimal };
 
     fn put(writer: &mut Writer<'_>, number: u32) {
-        writer.number(number);
+        if number >= 10 {
+            Whole::put(writer, number / 10);
+        }
+        writer.byte(b'0' + (number % 10) as u8);
     }
 }
 
@@ -117,7 +110,7 @@ impl Form for Price {
     ghost text = { price_text };
 
     fn put(writer: &mut Writer<'_>, cents: u32) {
-        writer.number(cents / 100);
+        Whole::put(writer, cents / 100);
         writer.byte(b',');
         writer.byte(b'0' + (cents / 10 % 10) as u8);
         writer.byte(b'0' + (cents % 10) as u8);

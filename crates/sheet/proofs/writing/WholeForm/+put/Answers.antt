@@ -1,8 +1,8 @@
 use Rattle.std.proofs.Common.{arith}
 use Rattle.std.proofs.lemmas.Fmt.{decimal_digit, decimal_step}
 use Rattle.std.proofs.lemmas.Grind.{common_steps}
-use Rattle.sheet.proofs.writing.Writer.+number.Goals as goal
-use Rattle.sheet.proofs.writing.Writer.+number.Goals.{then-number-ge10, else-number-ge10}
+use Rattle.sheet.proofs.writing.WholeForm.+put.Goals as goal
+use Rattle.sheet.proofs.writing.WholeForm.+put.Goals.{then-number-ge10, else-number-ge10}
 
 pub returns : goal.returns
 returns t c = elim c.if-number-ge10.branch [
