@@ -1,7 +1,7 @@
 -- What the book of taken blocks answers, by the answers of the book below it.
-use Rattle.std.proofs.Common.{◌≡◌, ℕ, zero, suc, ◌+◌, ◌-◌, ◌≤◌, Bool, true, false, cond, ◌&&◌, leb, List, [], ◌∷◌, map, get_or, take, is_some, Some, None, Option, unwrap_or, sym, refl, ap, ◌∙◌, add-one, arith}
+use Rattle.std.proofs.Common.{◌≡◌, zero-add, add-zero, length, filter, ℕ, zero, suc, ◌+◌, ◌-◌, ◌≤◌, Bool, true, false, cond, ◌&&◌, leb, List, [], ◌∷◌, map, get_or, take, is_some, Some, None, Option, unwrap_or, sym, refl, ap, ◌∙◌, add-one, arith}
 use Rattle.std.specs.Option.{option_map}
-use Rattle.std.specs.List.{slice_get}
+use Rattle.std.specs.List.{slice_get, range_with_len}
 use Rattle.text.specs.Form.{◌>>=◌}
 use Rattle.sheet.specs.Offer.{Offer}
 use Rattle.book.specs.Book.{asked, block_asked, price_asked, width_asked}
@@ -17,11 +17,23 @@ blocks_next [] (suc i) = refl
 blocks_next (o ∷ os) zero = omega arith
 blocks_next (o ∷ os) (suc i) = let next = blocks_next os i in omega arith
 
-pub blocks_more : (offers : List Offer) (i before after : ℕ) (some : Bool) → is_some (block_asked offers i) ≡ some → before ≡ count has_block (take i offers) → after ≡ before + cond some 1 0 → after ≡ count has_block (take (i + 1) offers)
-blocks_more offers i before after some block_is so_far one_more =
-    let next = blocks_next offers i in
-    let one : ◌≡◌ {A = ℕ} (cond (is_some (block_asked offers i)) 1 0) (cond some 1 0) = ap (λ (b : Bool). cond b 1 0) block_is in
-    rw add-one (omega arith)
+-- as many places have a block as offers there
+blocks_from : (offers : List Offer) (k n : ℕ) → length (filter (λ i. is_some (block_asked offers i)) (range_with_len k n)) + count has_block (take k offers) ≡ count has_block (take (k + n) offers)
+blocks_from offers k zero = rw (zero-add, add-zero) refl
+blocks_from offers k (suc n) =
+    let blocks : ℕ → ℕ = λ i. count has_block (take i offers) in
+    let far : k + 1 + n ≡ k + suc n = omega arith in
+    go (is_some (block_asked offers k)) (ap blocks (add-one k) ∙ blocks_next offers k) (blocks_from offers (k + 1) n ∙ ap blocks far)
+  where
+    rest : List ℕ
+    rest = filter (λ i. is_some (block_asked offers i)) (range_with_len (k + 1) n)
+
+    go : (b : Bool) → count has_block (take (k + 1) offers) ≡ count has_block (take k offers) + cond b 1 0 → length rest + count has_block (take (k + 1) offers) ≡ count has_block (take (k + suc n) offers) → length (cond b (k ∷ rest) rest) + count has_block (take k offers) ≡ count has_block (take (k + suc n) offers)
+    go true next more = omega arith
+    go false next more = omega arith
+
+pub blocks_counted : (offers : List Offer) (n : ℕ) → length (filter (λ i. is_some (block_asked offers i)) (range_with_len 0 n)) ≡ count has_block (take n offers)
+blocks_counted offers n = let all = blocks_from offers 0 n in omega (arith, rw zero-add at all)
 
 pub blocks_few : (offers : List Offer) (i : ℕ) → count has_block (take i offers) ≤ count has_block offers
 blocks_few [] zero = omega arith

@@ -1,7 +1,5 @@
 -- The book of taken blocks, place by place.
-use Rattle.std.proofs.Common.{◌≡◌, ℕ, zero, suc, ◌+◌, ◌%◌, ◌^◌, Bool, true, false, cond, ◌&&◌, eqb, List, [], ◌∷◌, take, Some, None, Option, sym, refl, ap, ◌∙◌, add-zero, add_assoc, zero-add}
-use native.Mathlib.Nat.{zero-div}
-use Rattle.std.proofs.lemmas.Bool.{and_right}
+use Rattle.std.proofs.Common.{◌≡◌, ℕ, zero, suc, ◌+◌, Bool, true, false, cond, ◌&&◌, List, [], ◌∷◌, take, Some, None, Option, sym, refl, ap, ◌∙◌, add-zero, add_assoc, zero-add}
 use Rattle.std.specs.Option.{option_map}
 use Rattle.std.specs.List.{slice_get}
 use Rattle.sheet.specs.Offer.{Offer}
@@ -47,16 +45,3 @@ module _ (choice : ℕ) where
       go : (o : Option Offer) → option_map q (option_map (left_of choice before) o) ≡ option_map q o
       go None = refl
       go (Some o) = ap Some (elim (takes_it choice before o) as (λ b. q (cond b (withheld o) o) ≡ q o) [ true ↦ same o | false ↦ refl ])
-
--- no block is taken by the set number 0
-pub none_taken : (offers : List Offer) → taken 0 offers ≡ offers
-none_taken offers = go 0 offers
-  where
-    not_held : (place : ℕ) → holds 0 place ≡ false
-    not_held place = ap (λ n. eqb (n % 2) 1) (zero-div (2 ^ place))
-
-    go : (place : ℕ) (offers : List Offer) → taken_from place 0 offers ≡ offers
-    go place [] = refl
-    go place (o ∷ os) =
-        ap (λ (b : Bool). cond b (withheld o) o ∷ taken_from (place + cond (has_block o) 1 0) 0 os) (and_right (has_block o) (holds 0 place) (not_held place))
-        ∙ ap (λ l. o ∷ l) (go (place + cond (has_block o) 1 0) os)

@@ -24,10 +24,9 @@ impl<'a> Deposit<'a> {
         ensures { sheet_told result ≡ slice_get (sheets_of self.now) sheet }
     {
         let text = self.text_from(sheet)?;
-        match read_sheet(self.calendar.periods(), 0, text) {
-            Ok((offer, _)) => Some(offer),
-            Err(_) => None,
-        }
+        read_sheet(self.calendar.periods(), 0, text)
+            .ok()
+            .map(|(offer, _)| offer)
     }
 
     /// The name in a sheet.
@@ -37,17 +36,6 @@ impl<'a> Deposit<'a> {
         let text = self.text_from(sheet)?;
         let (name, _) = read_name(text)?;
         Some(name.bytes)
-    }
-}
-
-/// The number at a place, counted from 0.
-fn at(numbers: &[u32], place: usize) -> Option<u32>
-    ensures { result ≡ slice_get numbers.now place }
-{
-    if place < numbers.len() {
-        Some(numbers[place])
-    } else {
-        None
     }
 }
 
@@ -80,50 +68,41 @@ impl<'a> Book for Deposit<'a> {
     }
 
     fn number(&self, offer: usize) -> Option<u32> {
-        let sheet = self.sheet(offer)?;
-        Some(sheet.number())
+        self.sheet(offer).map(|sheet| sheet.number())
     }
 
     fn floor(&self, offer: usize) -> Option<u32> {
-        let sheet = self.sheet(offer)?;
-        Some(sheet.floor())
+        self.sheet(offer).map(|sheet| sheet.floor())
     }
 
     fn product(&self, offer: usize) -> Option<Product> {
-        let sheet = self.sheet(offer)?;
-        Some(sheet.product())
+        self.sheet(offer).map(|sheet| sheet.product())
     }
 
     fn is_observed(&self, offer: usize) -> Option<bool> {
-        let sheet = self.sheet(offer)?;
-        Some(sheet.is_observed())
+        self.sheet(offer).map(|sheet| sheet.is_observed())
     }
 
     fn is_short(&self, offer: usize) -> Option<bool> {
-        let sheet = self.sheet(offer)?;
-        Some(sheet.is_short())
+        self.sheet(offer).map(|sheet| sheet.is_short())
     }
 
     fn range_count(&self, offer: usize) -> Option<usize> {
-        let sheet = self.sheet(offer)?;
-        Some(sheet.widths().len())
+        self.sheet(offer).map(|sheet| sheet.widths().len())
     }
 
     fn width(&self, offer: usize, range: usize) -> Option<u32> {
-        let sheet = self.sheet(offer)?;
-        at(sheet.widths(), range)
+        self.sheet(offer)?.widths().get(range).copied()
     }
 
     fn price(&self, offer: usize, period: usize, range: usize) -> Option<u32> {
         if period < 1 {
             return None;
         }
-        let sheet = self.sheet(offer)?;
-        at(sheet.prices_at(period - 1), range)
+        self.sheet(offer)?.prices_at(period - 1).get(range).copied()
     }
 
     fn block(&self, offer: usize) -> Option<u32> {
-        let sheet = self.sheet(offer)?;
-        sheet.block()
+        self.sheet(offer)?.block()
     }
 }

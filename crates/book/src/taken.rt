@@ -29,17 +29,13 @@ impl<'a, B> Taken<'a, B> {
 }
 
 /// How many of the offers before a place have a block.
-fn blocks_before<B: Book>(book: &B, offer: usize) -> u32
+fn blocks_before<B: Book>(book: &B, offer: usize) -> usize
     ensures value { result ≡ count has_block (take offer (B.Book.offers book.now)) }
     ensures bound { result ≤ 6 }
 {
-    let mut blocks = 0;
-    for place in 0..offer {
-        if book.block(place).is_some() {
-            blocks += 1;
-        }
-    }
-    blocks
+    (0..offer)
+        .filter(|place| book.block(*place).is_some())
+        .count()
 }
 
 impl<'a, B: Book> Taken<'a, B> {

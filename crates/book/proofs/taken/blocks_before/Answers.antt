@@ -1,29 +1,17 @@
-use Rattle.std.proofs.Common.{◌≡◌, true, false, take, is_some, sym, ap, ◌∙◌, arith}
+use Rattle.std.proofs.Common.{◌≡◌, ◌≤◌, is_some, take, ◌∙◌, arith, rules, tests}
+use Rattle.std.proofs.lemmas.Iterator.{YieldsList-from_range}
+use Rattle.std.proofs.lemmas.Iterator.Consumers.{YieldsList-from_filter, count_from_yields_List}
+use Rattle.book.specs.Book.{block_asked}
 use Rattle.book.specs.Limits.{count, has_block}
-use Rattle.book.proofs.TakenAsked.{blocks_more, blocks_few}
+use Rattle.book.proofs.TakenAsked.{blocks_counted, blocks_few}
 use Rattle.book.proofs.taken.blocks_before.Goals as goal
-use Rattle.book.proofs.taken.blocks_before.Goals.{then-is_some, else-is_some}
-
-pub overflow_add-blocks : goal.overflow_add-blocks
-overflow_add-blocks g c =
-    let offers = g.B.Book.offers c.args.book.now in
-    omega (arith, blocks_few offers c.loop-place.place, (g.B.Book.kept c.args.book.now).blocks, c.loop-place.invariant)
-
-pub loop-place-preserved : goal.loop-place-preserved
-loop-place-preserved g c =
-    let offers = g.B.Book.offers c.args.book.now in
-    let place = c.loop-place.place in
-    let same = ap is_some (sym c.block.ensures) ∙ sym c.is_some.ensures in
-    elim c.if-is_some.branch [
-      | then-is_some w ↦ blocks_more offers place c.loop-place.blocks c.if-is_some.blocks true (same ∙ w.if-is_some.true) c.loop-place.invariant w.blocks-is
-      | else-is_some w ↦ blocks_more offers place c.loop-place.blocks c.if-is_some.blocks false (same ∙ w.if-is_some.false) c.loop-place.invariant (omega (arith, w.blocks-is))
-    ]
 
 pub returns : goal.returns
 returns g c =
     let offers = g.B.Book.offers c.args.book.now in
-    let whole : c.loop-place.place ≡ c.args.offer = omega (arith, c.loop-place-test.false, c.loop-place.auto.place-end) in
-    record {
-      value = c.loop-place.invariant ∙ ap (λ n. count has_block (take n offers)) whole;
-      bound = omega (arith, blocks_few offers c.loop-place.place, (g.B.Book.kept c.args.book.now).blocks, c.loop-place.invariant);
-    }
+    let few : count has_block offers ≤ 6 = (g.B.Book.kept c.args.book.now).blocks in
+    let value : c.count.result ≡ count has_block (take c.args.offer offers) =
+    count_from_yields_List c.filter.result c.count.result c.count.ensures.ran (YieldsList-from_filter _ (λ i. is_some (block_asked offers i)) (YieldsList-from_range 0 c.args.offer c.args.offer (search rules) (search rules)) c.filter.ensures.closure (λ x b q k. search (rules, tests)))
+    ∙ blocks_counted offers c.args.offer
+    in
+    record { value = value; bound = omega (arith, value, few, blocks_few offers c.args.offer) }
