@@ -52,8 +52,7 @@ read_first T before text rest o e = go (read T 0 text) refl (read_later before [
         k ∙ ap (λ x. Ok (x, s.1)) first ∙ ap (λ x. Ok (o, x)) second
     go (Err fault) k h =
         let no : ◌≡◌ {A = Result (Offer × List ℕ) SheetFault} (Err (sheet_later before fault)) (Ok (o, rest)) = sym (h (settled fault)) ∙ alone in
-        let z : ◌≡◌ {A = ℕ} 0 1 = cc in
-        absurd (omega arith)
+        absurd (cc)
 
 -- ---- a place
 
@@ -77,7 +76,7 @@ module _ (T : ℕ) (text : List ℕ) (place : ℕ) where
     where
       go : (r : Result (Offer × List ℕ) SheetFault) → read T 0 (drop place text) ≡ r → was_read r ≡ true → (s : Offer × List ℕ) × (read T 0 (drop place text) ≡ Ok s)
       go (Ok s) e h = (s, e)
-      go (Err fault) e h = let z : ◌≡◌ {A = ℕ} 0 1 = cc in absurd (omega arith)
+      go (Err fault) e h = absurd (cc)
 
 pub every_push : {X : Type 0} (test : X → Bool) (xs : List X) (x : X) → every test xs ≡ true → test x ≡ true → every test (xs ++ (x ∷ [])) ≡ true
 every_push test [] x h k = ap (λ b. b && true) k
