@@ -1,6 +1,7 @@
 -- A share of each offer, added up.
-use Rattle.std.proofs.Common.{◌≡◌, ℕ, ◌+◌, ◌<◌, Option, fold, List, [], ◌∷◌, ◌++◌, map, sum, refl, ap, ◌∙◌, arith}
-use Rattle.std.proofs.lemmas.List.Sums.{sum_by-cons}
+use Rattle.std.proofs.Common.{◌≡◌, ℕ, ◌+◌, ◌<◌, Option, fold, List, ◌++◌, map, sum, sym, refl, ap, ◌∙◌, arith}
+use Rattle.std.proofs.lemmas.List.Sums.{sum-map}
+use Rattle.std.proofs.lemmas.List.Recursion.{is_sum_by}
 use Rattle.std.proofs.lemmas.List.{map-append}
 use Rattle.std.specs.Borrow.{Bor}
 use Rattle.std.specs.Iterator.Runs.{WholeRun, EachRunFrom}
@@ -21,13 +22,11 @@ run_below r top run fits = omega (arith, fits run.0 run.0.seen run.1, run.3)
 
 -- the sum of std is the crate's own
 pub sum_total : (xs : List ℕ) → sum xs ≡ total xs
-sum_total [] = refl
-sum_total (x ∷ xs) = sum_by-cons (λ y. y) x xs ∙ ap (λ n. x + n) (sum_total xs)
-
-map_twice : (of : Offer → ℕ) (offers : List Kept) → map (λ o. of (facts o)) offers ≡ map of (map facts offers)
-map_twice of [] = refl
-map_twice of (o ∷ os) = ap (λ ns. of (facts o) ∷ ns) (map_twice of os)
+sum_total xs = sym (is_sum_by total (λ n. n) refl (λ _ _. refl) xs)
 
 -- what is added up of the offers before a place and those after it
 pub sum_shares : (of : Offer → ℕ) (before after : List Kept) → sum (map (λ o. of (facts o)) (before ++ after)) ≡ total (map of (map facts before ++ map facts after))
-sum_shares of before after = sum_total _ ∙ ap total (map_twice of (before ++ after) ∙ ap (map of) (map-append facts before after))
+sum_shares of before after =
+    sum-map (λ o. of (facts o)) (before ++ after)
+    ∙ sym (is_sum_by (λ (os : List Kept). total (map of (map facts os))) (λ o. of (facts o)) refl (λ _ _. refl) (before ++ after))
+    ∙ ap (λ os. total (map of os)) (map-append facts before after)

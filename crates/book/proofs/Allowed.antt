@@ -1,5 +1,5 @@
 -- Amendments and withdrawals by the place of the offer.
-use Rattle.std.proofs.Common.{◌≡◌, ℕ, ◌+◌, ◌≤◌, true, false, List, ◌++◌, map, take, drop, is_some, Some, None, Ok, Err, Option, sym, refl, ap, ◌∙◌, add-one, arith}
+use Rattle.std.proofs.Common.{◌≡◌, ℕ, ◌+◌, ◌≤◌, true, false, List, ◌++◌, map, take, drop, is_some, Some, None, Ok, Err, Option, sym, refl, ap, ◌∙◌, add-one}
 use Rattle.std.specs.List.{remove}
 use Rattle.std.specs.Option.{ok_or}
 use Rattle.std.proofs.lemmas.List.{map-append, take-map, drop-map}
@@ -17,7 +17,7 @@ use Rattle.book.proofs.Placed.{stands_placed, others_placed}
 -- what `ok_or` makes of a place that is not there
 pub passed_nowhere : (found : Option ℕ) (fault : RegisterFault) → Err fault ≡ ok_or found Unknown → (found ≡ None) × (fault ≡ Unknown)
 passed_nowhere None fault e = let same : fault ≡ Unknown = cc in (refl, same)
-passed_nowhere (Some i) fault e = let z : ◌≡◌ {A = ℕ} 0 1 = cc in absurd (omega arith)
+passed_nowhere (Some i) fault e = absurd (cc)
 
 -- the offers without the one at a place
 pub removed : (kept : List Kept) (i : ℕ) → map facts (remove kept i) ≡ take i (map facts kept) ++ drop (i + 1) (map facts kept)

@@ -22,7 +22,7 @@ use Rattle.book.proofs.Sums.{sum_push}
 -- ---- one sheet
 
 ok_not_err : {X F : Type 0} (x : X) (f : F) → ◌≡◌ {A = Result X F} (Ok x) (Err f) → ⊥
-ok_not_err x f e = let z : ◌≡◌ {A = ℕ} 0 1 = cc in omega arith
+ok_not_err x f e = cc
 
 -- a sheet that is read alone leaves nothing
 alone_whole : (T : ℕ) (text : List ℕ) (o : Offer) → read_alone T text ≡ Ok o → read T 0 text ≡ Ok (o, [])
@@ -206,7 +206,7 @@ module _ (T : ℕ) where
   -- nor is it empty
   alone_some : (text rest : List ℕ) (fault : SheetFault) → breaks_form (Sheet fault) ≡ false → read_alone T text ≡ Err fault → text ++ rest ≡ [] → ⊥
   alone_some [] rest fault other h none = let form : Form 1 ≡ fault = cc in true≢false (ap (λ f. breaks_form (Sheet f)) form ∙ other)
-  alone_some (b ∷ text) rest fault other h none = let z : ◌≡◌ {A = ℕ} 0 1 = cc in omega arith
+  alone_some (b ∷ text) rest fault other h none = cc
 
   module _ (roll : Roll) (text rest : List ℕ) (fault : RegisterFault) where
     abbrev placed : List Offer → Roll

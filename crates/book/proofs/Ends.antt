@@ -2,6 +2,7 @@
 use Rattle.std.proofs.Common.{◌≡◌, ℕ, zero, suc, ◌+◌, ◌-◌, ◌*◌, Bool, true, false, cond, not, ◌&&◌, eqb, List, [], ◌∷◌, ◌++◌, length, take, drop, Some, None, Ok, Err, codes, Option, Result, sym, refl, ap, ◌∙◌, append_assoc, arith, length-append, take-append-drop}
 use Rattle.std.specs.Option.{ok_or}
 use Rattle.std.specs.List.{prefix_len}
+use Rattle.std.proofs.Math.Seq.{drop-append_seam}
 use Rattle.text.specs.Form.{Reads, ◌>>=◌, between, after, run, digit, value, needless_zero, number_up_to, whole, cents, decimals, price, ended, field, fields, line_of, keyed, named, name}
 use Rattle.text.specs.Tokens.{Tail}
 use Rattle.sheet.specs.Offer.{Offer}
@@ -16,14 +17,10 @@ pub tail_on : (text mid rest : List ℕ) → Tail text mid → Tail mid rest →
 tail_on text mid rest h k = (h.0 ++ k.0, h.1 ∙ ap (λ m. h.0 ++ m) k.1 ∙ sym (append_assoc h.0 k.0 rest))
 
 -- the same by its place
-drop_front : (front rest : List ℕ) → drop (length front) (front ++ rest) ≡ rest
-drop_front [] rest = refl
-drop_front (x ∷ front) rest = drop_front front rest
-
 pub tail_place : (text rest : List ℕ) → Tail text rest → drop (length text - length rest) text ≡ rest
 tail_place text rest h =
     let e : length text - length rest ≡ length h.0 = omega (arith, ap length h.1, length-append h.0 rest) in
-    ap (λ n. drop n text) e ∙ ap (λ t. drop (length h.0) t) h.1 ∙ drop_front h.0 rest
+    ap (λ n. drop n text) e ∙ ap (λ t. drop (length h.0) t) h.1 ∙ drop-append_seam h.0 rest
 
 -- ---- a part of a line
 
@@ -186,7 +183,7 @@ pub read_tail : (T before : ℕ) (text : List ℕ) (o : Offer) (rest : List ℕ)
 read_tail T before text o rest e = go (read T before text) (read_leaves T before text) e
   where
     go : (r : Result (Offer × List ℕ) SheetFault) → LineEnds text r → r ≡ Ok (o, rest) → Tail text rest
-    go (Err fault) h e = let z : ◌≡◌ {A = ℕ} 0 1 = cc in absurd (omega arith)
+    go (Err fault) h e = absurd (cc)
     go (Ok s) h e =
         let p : s ≡ (o, rest) = cc in
         let q : s.1 ≡ rest = ap (λ x. x.1) p in

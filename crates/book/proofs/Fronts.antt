@@ -1,5 +1,5 @@
 -- What stands at the front of a sheet of a deposit, and what its offer is asked for.
-use Rattle.std.proofs.Common.{◌≡◌, ℕ, zero, suc, ◌+◌, ◌-◌, ◌≤◌, Bool, true, not, ◌&&◌, leb, List, [], ◌∷◌, map, length, get_or, take, drop, Some, None, Ok, Err, codes, Option, Result, sym, refl, ap, ◌∙◌, subst, arith, length-drop}
+use Rattle.std.proofs.Common.{◌≡◌, ℕ, zero, suc, ◌+◌, ◌-◌, ◌≤◌, Bool, true, not, ◌&&◌, leb, List, [], ◌∷◌, map, length, get_or, take, drop, Some, None, Ok, codes, Option, sym, refl, ap, ◌∙◌, subst, arith, length-drop}
 use Rattle.std.proofs.lemmas.List.{take_all}
 use Rattle.std.proofs.lemmas.Bool.{and_parts, le-leb}
 use Rattle.std.specs.List.{slice_get}
@@ -7,19 +7,18 @@ use Rattle.text.specs.Form.{◌>>=◌, ended, field, whole, name, named}
 use Rattle.text.proofs.FormKeeps.{some_from, ended_from}
 use Rattle.sheet.specs.Limits.{highest_number}
 use Rattle.sheet.specs.Offer.{Offer, listed, prices_at}
-use Rattle.sheet.specs.Read.{month_of}
 use Rattle.sheet.specs.Sheet.{every, itself, identifier_line, floor_line, product_line, domax_line, mark_line, Head, head, shape_line, width_line, period_line, price_lines, block_line, offer_of, read}
 use Rattle.sheet.proofs.SheetKeeps.{ok_case, must_case, line_from, ok_same}
 use Rattle.sheet.specs.declared.fault.SheetFault.{SheetFault}
 use Rattle.sheet.specs.declared.fault.SheetFault.TheVariants.{Marks}
 use Rattle.book.specs.Book.{price_asked}
 use Rattle.book.specs.Places.{begins, offer_at, all_begin, offers_at}
-use Rattle.book.proofs.Reading.{begins_inside, begins_so, month_same, offer_there}
+use Rattle.book.proofs.Reading.{begins_inside, begins_so, offer_there}
 
 -- ---- lists
 
 every_nth : (test : ℕ → Bool) (xs : List ℕ) (i x : ℕ) → every test xs ≡ true → slice_get xs i ≡ Some x → test x ≡ true
-every_nth test [] i x h e = let z : ◌≡◌ {A = ℕ} 0 1 = cc in absurd (omega arith)
+every_nth test [] i x h e = absurd (cc)
 every_nth test (y ∷ xs) zero x h e = let same : y ≡ x = cc in ap test (sym same) ∙ (and_parts (test y) (every test xs) h).0
 every_nth test (y ∷ xs) (suc i) x h e = every_nth test xs i x (and_parts (test y) (every test xs) h).1 e
 
@@ -95,22 +94,6 @@ module _ (T : ℕ) (text : List ℕ) (s : Offer × List ℕ) (e : read T 0 text 
       let same : ◌≡◌ {A = Option (List ℕ × List ℕ)} (Some (who, rest)) (Some (s.0.name, p.0)) = h ∙ p.1 in
       let both : ◌≡◌ {A = List ℕ × List ℕ} (who, rest) (s.0.name, p.0) = cc in
       ap (λ (q : List ℕ × List ℕ). q.0) both
-
-  -- so is what is read again
-  module _ (n : ℕ) (month : n ≡ T) (few : n ≤ 11) where
-    again : read (month_of n) 0 text ≡ Ok s
-    again = ap (λ k. read k 0 text) (month_same n few ∙ month) ∙ e
-
-    pub read_again : (o : Offer) (rest : List ℕ) → Ok (o, rest) ≡ read (month_of n) 0 text → o ≡ s.0
-    read_again o rest h =
-        let same : (o, rest) ≡ s = ok_same {F = SheetFault} (o, rest) s (h ∙ again) in
-        ap (λ (q : Offer × List ℕ). q.0) same
-
-    pub read_surely : (fault : SheetFault) → Err fault ≡ read (month_of n) 0 text → ⊥
-    read_surely fault h =
-        let same : ◌≡◌ {A = Result (Offer × List ℕ) SheetFault} (Err fault) (Ok s) = h ∙ again in
-        let z : ◌≡◌ {A = ℕ} 0 1 = cc in
-        omega arith
 
 -- ---- a price
 

@@ -40,7 +40,7 @@ is_back o x h = go (is x.name x.number o) refl
 
 module _ (name : List ℕ) (number : ℕ) where
   pub count_stands : (xs : List Offer) → stands name number xs ≡ true → 1 ≤ count (is name number) xs
-  count_stands [] h = let z : ◌≡◌ {A = ℕ} 0 1 = cc in absurd (omega arith)
+  count_stands [] h = absurd (cc)
   count_stands (x ∷ xs) h = go (is name number x) (count_stands xs) h
     where
       go : (b : Bool) → (stands name number xs ≡ true → 1 ≤ count (is name number) xs) → is_some (cond b (Some x) (standing name number xs)) ≡ true → 1 ≤ cond b 1 0 + count (is name number) xs
@@ -60,7 +60,7 @@ module _ (name : List ℕ) (number : ℕ) where
   none_counted (x ∷ xs) h = go (is name number x) (none_counted xs) h
     where
       go : (b : Bool) → (stands name number xs ≡ false → count (is name number) xs ≡ 0) → is_some (cond b (Some x) (standing name number xs)) ≡ false → cond b 1 0 + count (is name number) xs ≡ 0
-      go true more h = let z : ◌≡◌ {A = ℕ} 0 1 = cc in absurd (omega arith)
+      go true more h = absurd (cc)
       go false more h = let k = more h in omega arith
 
   pub none_is : (xs : List Offer) → stands name number xs ≡ false → AllByRecursion (λ x. is name number x ≡ false) xs
@@ -68,7 +68,7 @@ module _ (name : List ℕ) (number : ℕ) where
   none_is (x ∷ xs) h = go (is name number x) refl (none_is xs) h
     where
       go : (b : Bool) → is name number x ≡ b → (stands name number xs ≡ false → AllByRecursion (λ x. is name number x ≡ false) xs) → is_some (cond b (Some x) (standing name number xs)) ≡ false → (is name number x ≡ false) × AllByRecursion (λ x. is name number x ≡ false) xs
-      go true e more h = let z : ◌≡◌ {A = ℕ} 0 1 = cc in absurd (omega arith)
+      go true e more h = absurd (cc)
       go false e more h = (e, more h)
 
   -- those who are kept when it is taken out

@@ -13,7 +13,6 @@ pub mod Law
 pub mod Limited
 pub mod Longer
 pub mod Once
-pub mod Opened
 pub mod Parts
 pub mod Placed
 pub mod Reading

@@ -21,7 +21,8 @@ use Rattle.book.specs.declared.fault.RegisterFault.TheVariants.{Volume, Blocks}
 use Rattle.book.proofs.Known.{same_bytes, count_stands}
 use Rattle.book.proofs.Law.{once_pushed, once_replaced}
 use Rattle.book.proofs.Parts.{then_parts, must_parts, Admitted, changed_parts, entered_parts, amended_parts, withdrawn_parts, needed_parts}
-use Rattle.book.proofs.Sums.{length_kept, sum_push, sum_kept, sum_swapped}
+use Rattle.std.proofs.lemmas.List.Sums.{length-filter, count_by-le-length}
+use Rattle.book.proofs.Sums.{sum_push, sum_kept, sum_swapped}
 
 -- ---- what `beside` judges
 
@@ -30,12 +31,12 @@ none_first test [] h = tt
 none_first test (t ∷ ts) h = go (test t) refl (none_first test ts) h
   where
     go : (b : Bool) → test t ≡ b → (no_pairs (first_at test ts) ≡ Ok tt → AllByRecursion (λ u. test u ≡ false) ts) → no_pairs (cond b (Some t) (first_at test ts)) ≡ Ok tt → (test t ≡ false) × AllByRecursion (λ u. test u ≡ false) ts
-    go true e more h = let z : ◌≡◌ {A = ℕ} 0 1 = cc in absurd (omega arith)
+    go true e more h = absurd (cc)
     go false e more h = (e, more h)
 
 must_alone : {F : Type 0} (b : Bool) (f : F) → must b f ≡ Ok tt → b ≡ true
 must_alone true f h = refl
-must_alone false f h = let z : ◌≡◌ {A = ℕ} 0 1 = cc in absurd (omega arith)
+must_alone false f h = absurd (cc)
 
 record Beside (T : ℕ) (offers : List Offer) (o : Offer) : Type 0 where
   pairs : (t : ℕ) → 1 ≤ t → t ≤ T → ranges o.name (o ∷ offers) t ≤ most_pairs
@@ -108,7 +109,7 @@ module _ (days : List ℕ) where
     month = l.month;
     sheets = all_kept_by p _ offers l.sheets;
     apart = λ name number. let c = sum_kept (λ x. cond (is name number x) 1 0) p offers in let k = l.apart name number in omega arith;
-    places = let c = length_kept p offers in let k = l.places in omega arith;
+    places = let c : length (filter p offers) ≤ length offers = omega (arith, length-filter p offers, count_by-le-length p offers) in let k = l.places in omega arith;
     pairs = λ name t h. let c = sum_kept (λ x. cond (bytes_eq x.name name) (length (row x t)) 0) p offers in let k = l.pairs name t h in omega arith;
     volumes = λ product. let c = sum_kept (λ x. cond (is_of product x.product) (width x) 0) p offers in let k = l.volumes product in omega arith;
     blocks = let c = sum_kept (λ x. cond (has_block x) 1 0) p offers in let k = l.blocks in omega arith;

@@ -22,12 +22,6 @@ Complete {X} reads = (text more : List ℕ) (x : X) (rest : List ℕ) → reads 
 goes_on : {X : Type 0} (reads : Reads X) → Complete reads → GoesOn reads
 goes_on reads h text more x b rest e = h text more x (b ∷ rest) e
 
-none_some : {X : Type 0} (x : X) → ◌≡◌ {A = Option X} None (Some x) → ⊥
-none_some x e = let z : ◌≡◌ {A = ℕ} 0 1 = cc in omega arith
-
-nil_cons : (b : ℕ) (rest : List ℕ) → [] ≡ b ∷ rest → ⊥
-nil_cons b rest e = let z : ◌≡◌ {A = ℕ} 0 1 = cc in omega arith
-
 -- ---- runs, numbers and prices
 
 leading_longer : (kind : ℕ → Bool) (text more : List ℕ) → prefix_len kind text < length text → prefix_len kind (text ++ more) ≡ prefix_len kind text
@@ -52,7 +46,7 @@ run_longer kind least most text more x b rest e =
 
 -- a test that stopped no value
 let_through : {X : Type 0} (t : Bool) (x y : X) → cond t None (Some x) ≡ Some y → (t ≡ false) × (x ≡ y)
-let_through true x y h = absurd (none_some y h)
+let_through true x y h = absurd (cc)
 let_through false x y h = (refl, cc)
 
 number_longer : (most : ℕ) → GoesOn (number_up_to most)
@@ -79,7 +73,7 @@ saying_longer f reads h text more y b rest e =
 decimals_longer : (euros : ℕ) → GoesOn (decimals euros)
 decimals_longer euros [] more x b rest e =
     let p = some_parts (euros * 100) x [] (b ∷ rest) e in
-    absurd (nil_cons b rest p.1)
+    absurd (cc)
 decimals_longer euros (c ∷ text) more x b rest e = go (eqb c 44) e
   where
     cents : List ℕ → ℕ
@@ -103,7 +97,7 @@ price_longer text more x b rest e =
     go : (euros : ℕ) (r : List ℕ) → number_up_to 7 text ≡ Some (euros, r) → decimals euros r ≡ Some (x, b ∷ rest) → price (text ++ more) ≡ Some (x, b ∷ (rest ++ more))
     go euros [] h k =
         let p = some_parts (euros * 100) x [] (b ∷ rest) k in
-        absurd (nil_cons b rest p.1)
+        absurd (cc)
     go euros (c ∷ r) h k =
         let again = number_longer 7 text more euros c r h in
         rw again (decimals_longer euros (c ∷ r) more x b rest k)
@@ -112,12 +106,12 @@ price_longer text more x b rest e =
 
 after_longer : (bs text more rest : List ℕ) → after bs text ≡ Some rest → after bs (text ++ more) ≡ Some (rest ++ more)
 after_longer [] text more rest e = let same : text ≡ rest = cc in ap (λ r. Some (r ++ more)) same
-after_longer (b ∷ bs) [] more rest e = absurd (none_some rest e)
+after_longer (b ∷ bs) [] more rest e = absurd (cc)
 after_longer (b ∷ bs) (x ∷ text) more rest e = go (eqb x b) (after_longer bs text more rest) e
   where
     go : (t : Bool) → (after bs text ≡ Some rest → after bs (text ++ more) ≡ Some (rest ++ more)) → cond t (after bs text) None ≡ Some rest → cond t (after bs (text ++ more)) None ≡ Some (rest ++ more)
     go true again h = again h
-    go false again h = absurd (none_some rest h)
+    go false again h = absurd (cc)
 
 -- a byte that has to end it was there
 ended_longer : {X : Type 0} (byte : ℕ) (reads : Reads X) → GoesOn reads → Complete (ended byte reads)
@@ -128,7 +122,7 @@ ended_longer {X} byte reads h text more x rest e =
     go a.0.1 (a.1 ∙ ap (λ y. Some (y, a.0.1)) p.0) (c.1 ∙ ap Some p.1)
   where
     go : (r : List ℕ) → reads text ≡ Some (x, r) → after (byte ∷ []) r ≡ Some rest → ended byte reads (text ++ more) ≡ Some (x, rest ++ more)
-    go [] k l = absurd (none_some rest l)
+    go [] k l = absurd (cc)
     go (b ∷ r) k l =
         let again = h text more x b r k in
         let end = after_longer (byte ∷ []) (b ∷ r) more rest l in

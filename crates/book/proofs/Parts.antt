@@ -1,5 +1,5 @@
 -- What an accepted call says of its parts.
-use Rattle.std.proofs.Common.{◌≡◌, ℕ, ◌-◌, ◌<◌, ◌≤◌, Bool, true, false, not, ◌&&◌, ltb, leb, ◌⊎◌, List, [], ◌∷◌, ◌++◌, length, set, Ok, Err, Result, sym, refl, ap, ◌∙◌, inl, inr, arith}
+use Rattle.std.proofs.Common.{◌≡◌, ℕ, ◌-◌, ◌<◌, ◌≤◌, Bool, true, false, not, ◌&&◌, ltb, leb, ◌⊎◌, List, [], ◌∷◌, ◌++◌, length, set, Ok, Err, Result, sym, refl, ap, ◌∙◌, inl, inr}
 use Rattle.std.proofs.lemmas.Bool.{ltb-true, leb-true, and_parts, not-true}
 use Rattle.text.specs.Form.{between}
 use Rattle.text.specs.Judging.{◌>>=◌, ◌>>◌, must}
@@ -16,22 +16,22 @@ use Rattle.book.specs.declared.fault.RegisterFault.TheVariants.{Known, Unknown, 
 
 pub bind_parts : {X Y F : Type 0} (r : Result X F) (next : X → Result Y F) (y : Y) → (r >>= next) ≡ Ok y → (x : X) × (r ≡ Ok x) × (next x ≡ Ok y)
 bind_parts (Ok x) next y h = (x, refl, h)
-bind_parts (Err f) next y h = let z : ◌≡◌ {A = ℕ} 0 1 = cc in absurd (omega arith)
+bind_parts (Err f) next y h = absurd (cc)
 
 pub then_parts : {Y F : Type 0} (r : Result (Unit {0}) F) (next : Result Y F) (y : Y) → (r >> next) ≡ Ok y → (r ≡ Ok tt) × (next ≡ Ok y)
 then_parts (Ok tt) next y h = (refl, h)
-then_parts (Err f) next y h = let z : ◌≡◌ {A = ℕ} 0 1 = cc in absurd (omega arith)
+then_parts (Err f) next y h = absurd (cc)
 
 pub must_parts : {Y F : Type 0} (b : Bool) (f : F) (next : Result Y F) (y : Y) → (must b f >> next) ≡ Ok y → (b ≡ true) × (next ≡ Ok y)
 must_parts true f next y h = (refl, h)
-must_parts false f next y h = let z : ◌≡◌ {A = ℕ} 0 1 = cc in absurd (omega arith)
+must_parts false f next y h = absurd (cc)
 
 pub ok_same : {X F : Type 0} (x y : X) → ◌≡◌ {A = Result X F} (Ok x) (Ok y) → x ≡ y
 ok_same x y e = cc
 
 pub of_sheet_parts : {X : Type 0} (r : Result X SheetFault) (x : X) → of_sheet r ≡ Ok x → r ≡ Ok x
 of_sheet_parts (Ok y) x h = cc
-of_sheet_parts (Err f) x h = let z : ◌≡◌ {A = ℕ} 0 1 = cc in absurd (omega arith)
+of_sheet_parts (Err f) x h = absurd (cc)
 
 pub changed_parts : (r : Result Roll RegisterFault) (roll : Roll) (a : Answer) (after : Roll) → Changed r roll a after →
     ((r ≡ Ok after) × (a ≡ accepted)) ⊎ ((f : RegisterFault) × (a ≡ refusal (number_and_place f)) × (after ≡ roll))

@@ -19,7 +19,7 @@ module _ (name : List ℕ) (number : ℕ) where
   stands_placed = stands_from 0
 
   from_on : (k j : ℕ) (offers : List Offer) → place_from k name number offers ≡ Some j → k ≤ j
-  from_on k j [] found = let z : ◌≡◌ {A = ℕ} 0 1 = cc in absurd (omega arith)
+  from_on k j [] found = absurd (cc)
   from_on k j (o ∷ os) found = go (is name number o) (from_on (k + 1) j os) found
     where
       go : (b : Bool) → (place_from (k + 1) name number os ≡ Some j → k + 1 ≤ j) → cond b (Some k) (place_from (k + 1) name number os) ≡ Some j → k ≤ j
@@ -35,7 +35,7 @@ module _ (name : List ℕ) (number : ℕ) where
       go false again rest = ap (λ xs. o ∷ xs) (again (omega arith))
 
   others_from : (k j : ℕ) (offers : List Offer) → place_from k name number offers ≡ Some j → count (is name number) offers ≤ 1 → others name number offers ≡ take (j - k) offers ++ drop (j - k + 1) offers
-  others_from k j [] found once = let z : ◌≡◌ {A = ℕ} 0 1 = cc in absurd (omega arith)
+  others_from k j [] found once = absurd (cc)
   others_from k j (o ∷ os) found once = go (is name number o) (others_from (k + 1) j os) found once
     where
       go : (b : Bool) → (place_from (k + 1) name number os ≡ Some j → count (is name number) os ≤ 1 → others name number os ≡ take (j - (k + 1)) os ++ drop (j - (k + 1) + 1) os) → cond b (Some k) (place_from (k + 1) name number os) ≡ Some j → cond b 1 0 + count (is name number) os ≤ 1 → cond (not b) (o ∷ others name number os) (others name number os) ≡ take (j - k) (o ∷ os) ++ drop (j - k + 1) (o ∷ os)
@@ -53,7 +53,7 @@ module _ (name : List ℕ) (number : ℕ) where
   others_placed offers i found once = let whole : i - 0 ≡ i = omega arith in subst (λ n. others name number offers ≡ take n offers ++ drop (n + 1) offers) whole (others_from 0 i offers found once)
 
   standing_from : (k j : ℕ) (offers : List Offer) (d : Offer) → place_from k name number offers ≡ Some j → standing name number offers ≡ Some (get_or offers (j - k) d)
-  standing_from k j [] d found = let z : ◌≡◌ {A = ℕ} 0 1 = cc in absurd (omega arith)
+  standing_from k j [] d found = absurd (cc)
   standing_from k j (o ∷ os) d found = go (is name number o) (standing_from (k + 1) j os d) found
     where
       go : (b : Bool) → (place_from (k + 1) name number os ≡ Some j → standing name number os ≡ Some (get_or os (j - (k + 1)) d)) → cond b (Some k) (place_from (k + 1) name number os) ≡ Some j → cond b (Some o) (standing name number os) ≡ Some (get_or (o ∷ os) (j - k) d)
@@ -74,7 +74,7 @@ module _ (name : List ℕ) (number : ℕ) where
   none_from k (o ∷ os) found = go (is name number o) (none_from (k + 1) os) found
     where
       go : (b : Bool) → (place_from (k + 1) name number os ≡ None → standing name number os ≡ None) → cond b (Some k) (place_from (k + 1) name number os) ≡ None → cond b (Some o) (standing name number os) ≡ None
-      go true again here = let z : ◌≡◌ {A = ℕ} 0 1 = cc in absurd (omega arith)
+      go true again here = absurd (cc)
       go false again later = again later
 
   pub unplaced : (offers : List Offer) → place_of name number offers ≡ None → standing name number offers ≡ None
@@ -90,7 +90,7 @@ module _ (new : Offer) where
       go false again rest = ap (λ xs. o ∷ xs) (again (omega arith))
 
   replaced_from : (k j : ℕ) (offers : List Offer) → place_from k new.name new.number offers ≡ Some j → count (is new.name new.number) offers ≤ 1 → replaced new offers ≡ set offers (j - k) new
-  replaced_from k j [] found once = let z : ◌≡◌ {A = ℕ} 0 1 = cc in absurd (omega arith)
+  replaced_from k j [] found once = absurd (cc)
   replaced_from k j (o ∷ os) found once = go (is new.name new.number o) (replaced_from (k + 1) j os) found once
     where
       go : (b : Bool) → (place_from (k + 1) new.name new.number os ≡ Some j → count (is new.name new.number) os ≤ 1 → replaced new os ≡ set os (j - (k + 1)) new) → cond b (Some k) (place_from (k + 1) new.name new.number os) ≡ Some j → cond b 1 0 + count (is new.name new.number) os ≤ 1 → cond b new o ∷ replaced new os ≡ set (o ∷ os) (j - k) new

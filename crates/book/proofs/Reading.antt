@@ -1,7 +1,7 @@
 -- The sheets of a text, read one after the other, are those that begin at the places told.
-use Rattle.std.proofs.Common.{◌≡◌, ℕ, suc, ◌+◌, ◌-◌, ◌*◌, ◌<◌, ◌≤◌, Bool, true, ◌&&◌, leb, List, [], ◌∷◌, ◌++◌, length, drop, Ok, Err, Result, sym, refl, ap, ◌∙◌, append-nil, arith, length-append}
+use Rattle.std.proofs.Common.{◌≡◌, ℕ, suc, ◌+◌, ◌-◌, ◌*◌, ◌<◌, ◌≤◌, Bool, true, ◌&&◌, leb, List, [], ◌∷◌, ◌++◌, length, take, drop, Ok, Err, Result, sym, refl, ap, ◌∙◌, append-nil, arith}
 use native.Mathlib.Nat.{min-eq_left}
-use Rattle.std.proofs.lemmas.List.{map-append}
+use Rattle.std.proofs.lemmas.List.{map-append, length-map, length_push, take_all}
 use Rattle.std.proofs.lemmas.Bool.{and_parts, leb-true, le-leb}
 use Rattle.text.specs.Judging.{◌>>=◌}
 use Rattle.text.specs.Tokens.{Tail}
@@ -12,10 +12,9 @@ use Rattle.sheet.specs.declared.fault.SheetFault.{SheetFault}
 use Rattle.sheet.specs.declared.fault.SheetFault.TheVariants.{Form, Value, Marks, Order, PartMonth}
 use Rattle.book.specs.Deposit.{entering, deposited}
 use Rattle.book.specs.Fault.{of_sheet, sheet_later}
-use Rattle.book.specs.Places.{places_of, was_read, offer_read, begins, offer_at, all_begin, offers_at}
+use Rattle.book.specs.Places.{was_read, offer_read, begins, offer_at, all_begin, offers_at}
 use Rattle.book.specs.Roll.{admitted, with}
 use Rattle.book.specs.declared.fault.RegisterFault.{RegisterFault}
-use Rattle.book.specs.declared.starts.Starts.{Starts}
 use Rattle.book.proofs.Ends.{tail_on, tail_place, read_tail, whole_tail}
 use Rattle.book.proofs.Later.{Settled, Later, read_later}
 use Rattle.book.proofs.Parts.{with_parts}
@@ -53,8 +52,7 @@ read_first T before text rest o e = go (read T 0 text) refl (read_later before [
         k ∙ ap (λ x. Ok (x, s.1)) first ∙ ap (λ x. Ok (o, x)) second
     go (Err fault) k h =
         let no : ◌≡◌ {A = Result (Offer × List ℕ) SheetFault} (Err (sheet_later before fault)) (Ok (o, rest)) = sym (h (settled fault)) ∙ alone in
-        let z : ◌≡◌ {A = ℕ} 0 1 = cc in
-        absurd (omega arith)
+        absurd (cc)
 
 -- ---- a place
 
@@ -78,7 +76,7 @@ module _ (T : ℕ) (text : List ℕ) (place : ℕ) where
     where
       go : (r : Result (Offer × List ℕ) SheetFault) → read T 0 (drop place text) ≡ r → was_read r ≡ true → (s : Offer × List ℕ) × (read T 0 (drop place text) ≡ Ok s)
       go (Ok s) e h = (s, e)
-      go (Err fault) e h = let z : ◌≡◌ {A = ℕ} 0 1 = cc in absurd (omega arith)
+      go (Err fault) e h = absurd (cc)
 
 pub every_push : {X : Type 0} (test : X → Bool) (xs : List X) (x : X) → every test xs ≡ true → test x ≡ true → every test (xs ++ (x ∷ [])) ≡ true
 every_push test [] x h k = ap (λ b. b && true) k
@@ -106,57 +104,60 @@ module _ (T turns before : ℕ) (offers : List Offer) where
 -- ---- all turns
 
 -- the sheets before the rest of a text have entered, and so many lines stand before it
-pub record SoFar (T first : ℕ) (text : List ℕ) (starts : Starts) (before : ℕ) (offers : List Offer) (rest : List ℕ) : Type 0 where
-  pub judged : entering T (33 - starts.count) before offers rest ≡ deposited T first text
-  pub told : offers_at T text (places_of starts) ≡ offers
-  pub sheets : all_begin T text (places_of starts) ≡ true
+pub record SoFar (T first : ℕ) (text places : List ℕ) (before : ℕ) (offers : List Offer) (rest : List ℕ) : Type 0 where
+  pub judged : entering T (33 - length places) before offers rest ≡ deposited T first text
+  pub told : offers_at T text places ≡ offers
+  pub sheets : all_begin T text places ≡ true
   pub tail : Tail text rest
-  pub few : starts.count ≤ 32
-  pub long : length offers ≡ starts.count
-  pub room : length starts.places ≡ 32
-  pub near : before ≤ 255 + 21 * starts.count
+  pub few : length places ≤ 32
+  pub near : before ≤ 255 + 21 * length places
 
-pub so_far_none : (T first : ℕ) (text : List ℕ) (starts : Starts) (before : ℕ) (offers : List Offer) → before ≡ first → first ≤ 255 → offers ≡ [] → places_of starts ≡ [] → starts.count ≡ 0 → length starts.places ≡ 32 → SoFar T first text starts before offers text
-so_far_none T first text starts before offers same low none empty zero_count room = record {
-  judged = ap (λ n. entering T (33 - n) before offers text) zero_count ∙ ap (λ os. entering T 33 before os text) none ∙ ap (λ n. entering T 33 n [] text) same;
-  told = ap (offers_at T text) empty ∙ sym none;
-  sheets = ap (all_begin T text) empty;
-  tail = whole_tail text;
-  few = omega arith;
-  long = ap length none ∙ sym zero_count;
-  room = room;
-  near = omega arith;
-}
+pub so_far_none : (T first : ℕ) (text places : List ℕ) (before : ℕ) (offers : List Offer) → before ≡ first → first ≤ 255 → offers ≡ [] → places ≡ [] → SoFar T first text places before offers text
+so_far_none T first text places before offers same low none empty =
+    let zero_places : length places ≡ 0 = ap length empty in
+    record {
+      judged = ap (λ n. entering T (33 - n) before offers text) zero_places ∙ ap (λ os. entering T 33 before os text) none ∙ ap (λ n. entering T 33 n [] text) same;
+      told = ap (offers_at T text) empty ∙ sym none;
+      sheets = ap (all_begin T text) empty;
+      tail = whole_tail text;
+      few = omega arith;
+      near = omega arith;
+    }
 
-module _ (T first : ℕ) (text : List ℕ) (starts : Starts) (before : ℕ) (offers : List Offer) (rest : List ℕ) (so_far : SoFar T first text starts before offers rest) (some : 1 ≤ length rest) where
-  left : 33 - starts.count ≡ suc (33 - (starts.count + 1))
+module _ (T first : ℕ) (text places : List ℕ) (before : ℕ) (offers : List Offer) (rest : List ℕ) (so_far : SoFar T first text places before offers rest) (some : 1 ≤ length rest) where
+  left : 33 - length places ≡ suc (33 - (length places + 1))
   left = let few = so_far.few in omega arith
 
   pub so_far_refused : (fault : RegisterFault) → (of_sheet (read T before rest) >>= (λ s. with T offers s.0)) ≡ Err fault → Err fault ≡ deposited T first text
   so_far_refused fault e =
-      sym (enters_not T (33 - (starts.count + 1)) before offers rest fault some e) ∙ ap (λ n. entering T n before offers rest) (sym left) ∙ so_far.judged
+      sym (enters_not T (33 - (length places + 1)) before offers rest fault some e) ∙ ap (λ n. entering T n before offers rest) (sym left) ∙ so_far.judged
 
-  module _ (o : Offer) (after : List Offer) (later : List ℕ) (e : read T before rest ≡ Ok (o, later)) (w : with T offers o ≡ Ok after) where
-    pub so_far_room : starts.count < 32
-    so_far_room = let room = (with_parts T offers o after w).0.room in let long = so_far.long in omega arith
+  -- one more sheet enters, and its place is told
+  module _ (o : Offer) (after : List Offer) (later : List ℕ) (e : read T before rest ≡ Ok (o, later)) (w : with T offers o ≡ Ok after) (next : List ℕ) (one_more : next ≡ take 32 (places ++ ((length text - length rest) ∷ []))) where
+    room : length places < 32
+    room = let room = (with_parts T offers o after w).0.room in omega (arith, ap length so_far.told, length-map places (offer_at T text))
 
-    pub so_far_more : (next : Starts) → places_of next ≡ places_of starts ++ ((length text - length rest) ∷ []) → next.count ≡ starts.count + 1 → length next.places ≡ 32 → (n : ℕ) → n ≡ lines o → n ≤ 21 →
-        SoFar T first text next (before + n) after later
-    so_far_more next places count room n counted short =
+    whole : next ≡ places ++ ((length text - length rest) ∷ [])
+    whole = one_more ∙ take_all 32 (places ++ ((length text - length rest) ∷ [])) (omega (arith, room, length_push places (length text - length rest)))
+
+    longer : length next ≡ length places + 1
+    longer = ap length whole ∙ length_push places (length text - length rest)
+
+    pub so_far_smaller : 33 - length next < 33 - length places
+    so_far_smaller = omega (arith, longer, room)
+
+    pub so_far_more : (n : ℕ) → n ≡ lines o → n ≤ 21 → SoFar T first text next (before + n) after later
+    so_far_more n counted short =
         let place = length text - length rest in
         let here : drop place text ≡ rest = tail_place text rest so_far.tail in
         let first_read : read T 0 (drop place text) ≡ Ok (o, later) = ap (λ t. read T 0 t) here ∙ read_first T before rest later o e in
         let made = (with_parts T offers o after w).1 in
-        let full = so_far_room in
         let near = so_far.near in
-        let long = so_far.long in
         record {
-          judged = ap (λ k. entering T (33 - k) (before + n) after later) count ∙ ap (λ k. entering T (33 - (starts.count + 1)) (before + k) after later) counted ∙ sym (enters_next T (33 - (starts.count + 1)) before offers rest later o after some e w) ∙ ap (λ n. entering T n before offers rest) (sym left) ∙ so_far.judged;
-          told = ap (offers_at T text) places ∙ map-append (offer_at T text) (places_of starts) (place ∷ []) ∙ ap (λ os. os ++ (offer_at T text place ∷ [])) so_far.told ∙ ap (λ x. offers ++ (x ∷ [])) (offer_there T text place (o, later) first_read) ∙ sym made;
-          sheets = ap (all_begin T text) places ∙ every_push (begins T text) (places_of starts) place so_far.sheets (begins_read T text place (o, later) first_read (omega arith));
+          judged = ap (λ k. entering T (33 - k) (before + n) after later) longer ∙ ap (λ k. entering T (33 - (length places + 1)) (before + k) after later) counted ∙ sym (enters_next T (33 - (length places + 1)) before offers rest later o after some e w) ∙ ap (λ n. entering T n before offers rest) (sym left) ∙ so_far.judged;
+          told = ap (offers_at T text) whole ∙ map-append (offer_at T text) places (place ∷ []) ∙ ap (λ os. os ++ (offer_at T text place ∷ [])) so_far.told ∙ ap (λ x. offers ++ (x ∷ [])) (offer_there T text place (o, later) first_read) ∙ sym made;
+          sheets = ap (all_begin T text) whole ∙ every_push (begins T text) places place so_far.sheets (begins_read T text place (o, later) first_read (omega arith));
           tail = tail_on text rest later so_far.tail (read_tail T before rest o later e);
-          few = omega arith;
-          long = ap length made ∙ length-append offers (o ∷ []) ∙ omega arith;
-          room = room;
-          near = omega arith;
+          few = omega (arith, longer, room);
+          near = omega (arith, longer);
         }

@@ -1,5 +1,5 @@
 -- A save, by the text that it writes.
-use Rattle.std.proofs.Common.{◌≡◌, ℕ, ◌<◌, Bool, true, false, cond, leb, List, map, length, get_or, Some, Ok, Err, Result, sym, refl, ap, ◌∙◌, arith}
+use Rattle.std.proofs.Common.{◌≡◌, ℕ, ◌<◌, Bool, true, false, cond, leb, List, map, length, get_or, Some, Ok, Err, Result, sym, refl, ap, ◌∙◌}
 use Rattle.std.proofs.lemmas.List.{get_or-map}
 use Rattle.sheet.specs.Facts.{facts}
 use Rattle.sheet.specs.Offer.{Offer}
@@ -21,13 +21,13 @@ module _ (text buffer : List ℕ) where
     where
       go : (b : Bool) → ◌≡◌ {A = Result ℕ SaveFault} (Ok n) (cond b (Ok (length text)) (Err NoSpace)) → ◌≡◌ {A = Result ℕ RegisterFault} (Ok n) (cond b (Ok (length text)) (Err Space))
       go true is = let same : n ≡ length text = cc in ap Ok same
-      go false is = let z : ◌≡◌ {A = ℕ} 0 1 = cc in absurd (omega arith)
+      go false is = absurd (cc)
 
   pub fits_not : (fault : SaveFault) → Err fault ≡ save_answer text buffer → Err Space ≡ cond (leb (length text) (length buffer)) (Ok (length text)) (Err Space)
   fits_not fault = go (leb (length text) (length buffer))
     where
       go : (b : Bool) → ◌≡◌ {A = Result ℕ SaveFault} (Err fault) (cond b (Ok (length text)) (Err NoSpace)) → ◌≡◌ {A = Result ℕ RegisterFault} (Err Space) (cond b (Ok (length text)) (Err Space))
-      go true is = let z : ◌≡◌ {A = ℕ} 0 1 = cc in absurd (omega arith)
+      go true is = absurd (cc)
       go false is = refl
 
 -- ---- the offer of an identifier

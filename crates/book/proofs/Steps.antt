@@ -1,6 +1,7 @@
 -- A call on a register is the roll's own step.
-use Rattle.std.proofs.Common.{◌≡◌, ℕ, zero, suc, ◌-◌, ◌≤◌, List, [], ◌∷◌, take, set, Ok, Err, Result, sym, refl, ap, ◌∙◌, subst}
+use Rattle.std.proofs.Common.{◌≡◌, ℕ, ◌-◌, ◌≤◌, List, take, set, Ok, Err, Result, sym, refl, ap, ◌∙◌, subst, arith}
 use Rattle.std.proofs.lemmas.Bool.{le-leb}
+use Rattle.std.proofs.Math.Seq.{take-set-lt}
 use Rattle.book.specs.declared.need.Need.{Need}
 use Rattle.sheet.specs.Offer.{Offer}
 use Rattle.sheet.specs.Sheet.{read_alone}
@@ -36,13 +37,7 @@ module _ (T : ℕ) (roll : Roll) (text : List ℕ) where
         go (Ok u) (Err fault) is = rw is refl
         go (Err fault) b is = rw is refl
 
-set_within : {X : Type 0} (n : ℕ) (xs : List X) (i : ℕ) (x : X) → take n (set xs i x) ≡ set (take n xs) i x
-set_within zero xs i x = refl
-set_within (suc n) [] i x = refl
-set_within (suc n) (y ∷ ys) zero x = refl
-set_within (suc n) (y ∷ ys) (suc i) x = ap (λ rest. y ∷ rest) (set_within n ys i x)
-
 pub need_set : (T : ℕ) (offers : List Offer) (needs : List Need) (t rr rc : ℕ) → 1 ≤ t → t ≤ T → rr ≤ 1000 → rc ≤ 1000 → Step T (record { offers = offers; needs = take T needs }) (need t rr rc) accepted (record { offers = offers; needs = take T (set needs (t - 1) (record { rapid = rr; complementary = rc })) })
 need_set T offers needs t rr rc low high rr_low rc_low =
     rw (le-leb 1 t low, le-leb t T high, le-leb rr 1000 rr_low, le-leb rc 1000 rc_low)
-    (refl, ap (λ (ns : List Need). record { offers = offers; needs = ns }) (set_within T needs (t - 1) (record { rapid = rr; complementary = rc })))
+    (refl, ap (λ (ns : List Need). record { offers = offers; needs = ns }) (take-set-lt T needs (t - 1) (record { rapid = rr; complementary = rc }) (omega arith)))

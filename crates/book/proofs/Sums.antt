@@ -1,16 +1,8 @@
 -- Sums and counts over lists.
-use Rattle.std.proofs.Common.{◌≡◌, ℕ, suc, ◌+◌, ◌≤◌, Bool, true, false, cond, not, List, [], ◌∷◌, ◌++◌, map, length, filter, refl, arith}
+use Rattle.std.proofs.Common.{◌≡◌, ℕ, ◌+◌, ◌≤◌, Bool, true, false, cond, not, List, [], ◌∷◌, ◌++◌, map, filter, refl, arith}
 use Rattle.sheet.specs.Offer.{Offer, total}
 use Rattle.book.specs.Limits.{is, count}
 use Rattle.book.specs.Roll.{others, replaced}
-
-pub length_kept : {X : Type 0} (p : X → Bool) (xs : List X) → length (filter p xs) ≤ length xs
-length_kept p [] = omega arith
-length_kept p (x ∷ xs) = go (p x) (length_kept p xs)
-  where
-    go : (b : Bool) → length (filter p xs) ≤ length xs → length (cond b (x ∷ filter p xs) (filter p xs)) ≤ suc (length xs)
-    go true h = omega arith
-    go false h = omega arith
 
 module _ {X : Type 0} (g : X → ℕ) where
   pub sum_push : (xs : List X) (y : X) → total (map g (xs ++ (y ∷ []))) ≡ g y + total (map g xs)

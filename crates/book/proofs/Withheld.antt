@@ -1,5 +1,5 @@
 -- The book of taken blocks, place by place.
-use Rattle.std.proofs.Common.{◌≡◌, ℕ, zero, suc, ◌+◌, Bool, true, false, cond, ◌&&◌, List, [], ◌∷◌, take, Some, None, Option, sym, refl, ap, ◌∙◌, add-zero, add_assoc, zero-add}
+use Rattle.std.proofs.Common.{◌≡◌, ℕ, zero, suc, ◌+◌, Bool, cond, ◌&&◌, List, [], ◌∷◌, take, sym, refl, ap, ◌∙◌, add-zero, add_assoc, zero-add}
 use Rattle.std.specs.Option.{option_map}
 use Rattle.std.specs.List.{slice_get}
 use Rattle.sheet.specs.Offer.{Offer}
@@ -34,14 +34,3 @@ module _ (choice : ℕ) where
 
   pub takes_at : (offers : List Offer) (i : ℕ) → slice_get (takes choice offers) i ≡ option_map (takes_it choice (count has_block (take i offers))) (slice_get offers i)
   takes_at offers i = flag_at 0 offers i ∙ ap (λ p. option_map (takes_it choice p) (slice_get offers i)) (zero-add (count has_block (take i offers)))
-
-  -- what a taken offer keeps is as it was
-  pub kept_at : {A : Type 0} (q : Offer → A) → ((o : Offer) → q (withheld o) ≡ q o) → (offers : List Offer) (i : ℕ) → option_map q (slice_get (taken choice offers) i) ≡ option_map q (slice_get offers i)
-  kept_at {A} q same offers i = ap (option_map q) (taken_at offers i) ∙ go (slice_get offers i)
-    where
-      before : ℕ
-      before = count has_block (take i offers)
-
-      go : (o : Option Offer) → option_map q (option_map (left_of choice before) o) ≡ option_map q o
-      go None = refl
-      go (Some o) = ap Some (elim (takes_it choice before o) as (λ b. q (cond b (withheld o) o) ≡ q o) [ true ↦ same o | false ↦ refl ])

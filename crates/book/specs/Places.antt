@@ -1,15 +1,15 @@
 -- Sheets in a text, by the places where they begin. Assumes nothing.
-use Rattle.std.specs.Prelude.{ℕ, Bool, true, false, ◌&&◌, List, [], map, length, take, drop, None, Ok, Err, Result, nat_le}
+use Rattle.std.specs.Prelude.{ℕ, Bool, true, false, ◌&&◌, List, [], map, length, drop, None, Ok, Err, Result, nat_le}
+use Rattle.short_list.specs.ShortList.{items}
 use Rattle.sheet.specs.Offer.{Offer}
 use Rattle.sheet.specs.Sheet.{every, read}
 use Rattle.sheet.specs.declared.fault.SheetFault.{SheetFault}
 use Rattle.sheet.specs.declared.product.Product.TheVariants.{Rapid}
-use Rattle.book.specs.declared.fault.RegisterFault.{RegisterFault}
-use Rattle.book.specs.declared.starts.Starts.{Starts}
+use Rattle.short_list.specs.declared.list.ShortList.{ShortList}
 
 -- in order
-abbrev pub places_of : Starts → List ℕ
-places_of starts = take starts.count starts.places
+abbrev pub places_of : ShortList ℕ 32 → List ℕ
+places_of = items
 
 abbrev pub was_read : Result (Offer × List ℕ) SheetFault → Bool
 was_read (Ok s) = true
@@ -47,8 +47,3 @@ module _ (T : ℕ) (text : List ℕ) where
 
   abbrev pub offers_at : List ℕ → List Offer
   offers_at places = map offer_at places
-
-  -- the offers of the sheets that begin at the places told
-  abbrev pub offers_told : Result Starts RegisterFault → Result (List Offer) RegisterFault
-  offers_told (Err fault) = Err fault
-  offers_told (Ok starts) = Ok (offers_at (places_of starts))

@@ -16,7 +16,7 @@ use Rattle.book.specs.Table.{days_of as table_days, offers_of}
 use Rattle.book.specs.Within.{within_limits}
 use Rattle.book.specs.declared.deposit.Deposit.{Deposit}
 use Rattle.book.specs.declared.fault.RegisterFault.{RegisterFault}
-use Rattle.book.specs.declared.starts.Starts.{Starts}
+use Rattle.short_list.specs.declared.list.ShortList.{ShortList}
 use Rattle.book.specs.declared.table.Table.{Table}
 use Rattle.book.specs.declared.unread.DepositFault.{DepositFault}
 use Rattle.book.specs.declared.unread.DepositFault.TheVariants.{Memory, Register}
@@ -35,14 +35,14 @@ FirstEnters T before text offers (Err fault) after = (of_sheet (read T before te
 FirstEnters T before text offers (Ok told) after = (o : Offer) × (read T before text ≡ Ok (o, told.1.now)) × (with T offers o ≡ Ok after) × (told.0 ≡ lines o)
 
 -- the table that the sheets of a text make, and where they begin
-pub record SheetsEntered (days text : List ℕ) (judged : Result (List Offer) RegisterFault) (table : Table) (starts : Starts) : Type 0 where
+pub record SheetsEntered (days text : List ℕ) (judged : Result (List Offer) RegisterFault) (table : Table) (starts : ShortList ℕ 32) : Type 0 where
   pub judges : judged ≡ Ok (offers_of table)
   pub month : table_days table ≡ days
   pub sheets : all_begin (length days) text (places_of starts) ≡ true
   pub told : offers_at (length days) text (places_of starts) ≡ offers_of table
 
 -- that table, or the refusal that was judged. Memory may lack at any time
-abbrev pub SheetsRead : (days text : List ℕ) (judged : Result (List Offer) RegisterFault) → Result (Table × Starts) DepositFault → Type 0
+abbrev pub SheetsRead : (days text : List ℕ) (judged : Result (List Offer) RegisterFault) → Result (Table × ShortList ℕ 32) DepositFault → Type 0
 SheetsRead days text judged (Err Memory) = Unit {0}
 SheetsRead days text judged (Err (Register fault)) = judged ≡ Err fault
 SheetsRead days text judged (Ok entered) = SheetsEntered days text judged entered.0 entered.1

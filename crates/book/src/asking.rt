@@ -60,7 +60,7 @@ impl<'a> Book for Deposit<'a> {
     }
 
     fn offer_count(&self) -> usize {
-        self.starts.as_slice().len()
+        self.starts.len()
     }
 
     fn name(&self, offer: usize) -> Option<&[u8]> {

@@ -3,8 +3,12 @@ ghost use Rattle.calendar.specs.Month.{day_counts};
 ghost use Rattle.book.specs.Places.{all_begin, offers_at, places_of};
 ghost use Rattle.book.specs.Within.{within};
 
-use crate::starts::Starts;
+use crate::table::MOST_OFFERS;
 use calendar::Calendar;
+use short_list::ShortList;
+
+/// The places of a text at which its sheets begin, in order.
+pub(crate) type Starts = ShortList<usize, MOST_OFFERS>;
 
 /// Several sheets in one text, under the calendar of a month. They stay in the text: a deposit keeps where each begins.
 #[derive(Clone, Copy)]

@@ -4,8 +4,7 @@ ghost use Rattle.calendar.specs.Month.{day_counts};
 ghost use Rattle.book.specs.Deposit.{deposited};
 ghost use Rattle.book.specs.Reading.{Deposited, Opened, days_of, sheets_of};
 
-use crate::deposit::Deposit;
-use crate::starts::Starts;
+use crate::deposit::{Deposit, Starts};
 use crate::table::Table;
 use crate::unread::DepositFault;
 use calendar::Calendar;
@@ -20,7 +19,7 @@ impl<'a> Deposit<'a> {
         Deposit {
             calendar,
             text: &[],
-            starts: Starts::none(),
+            starts: Starts::new(),
         }
     }
 

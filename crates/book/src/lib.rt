@@ -17,7 +17,6 @@ mod places;
 mod register;
 mod sheets;
 mod standing;
-mod starts;
 mod table;
 mod taken;
 mod unread;

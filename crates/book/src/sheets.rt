@@ -5,8 +5,8 @@ ghost use Rattle.book.specs.Deposit.{deposited};
 ghost use Rattle.book.specs.Reading.{FirstEnters, SheetsRead};
 ghost use Rattle.book.specs.Table.{days_of, offers_of, periods_of};
 
+use crate::deposit::Starts;
 use crate::fault::RegisterFault;
-use crate::starts::Starts;
 use crate::table::Table;
 use crate::unread::DepositFault;
 use calendar::Calendar;
@@ -41,7 +41,7 @@ impl Table {
         ensures { SheetsRead (day_counts calendar) text.now (deposited (length (day_counts calendar)) lines_before text.now) result }
     {
         let mut table = Table::open(heap, calendar)?;
-        let mut starts = Starts::none();
+        let mut starts = Starts::new();
         let mut before = u16::from(lines_before);
         let mut rest = text;
         while !rest.is_empty() {

@@ -8,6 +8,6 @@ use Rattle.book.proofs.deposit.Deposit.new.Goals as goal
 pub invariant_of-result : goal.invariant_of-result
 invariant_of-result c =
     let days = day_counts c.args.calendar in record {
-      sheets = ap (λ places. all_begin (length days) [] places) c.none.ensures.value;
-      kept = ap (λ places. within days (offers_at (length days) [] places)) c.none.ensures.value ∙ within_none days c.args.calendar.kept;
+      sheets = ap (λ places. all_begin (length days) [] places) c.new.ensures;
+      kept = ap (λ places. within days (offers_at (length days) [] places)) c.new.ensures ∙ within_none days c.args.calendar.kept;
     }
