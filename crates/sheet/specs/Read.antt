@@ -33,6 +33,7 @@ pub record ReadsLine {X Y : Type 0} (meaning : X → Y) (line : Line Y) (before 
   pub counts : after.line ≡ before.line + 1
   pub says : says_to meaning after.rest.now result ≡ line after.line before.rest.now
 
+-- a name's bytes and the number beside it
 abbrev pub name_says : Bor (List ℕ) × ℕ → List ℕ × ℕ
 name_says (name, number) = (name.now, number)
 
@@ -40,6 +41,7 @@ name_says (name, number) = (name.now, number)
 abbrev pub product_of : ℕ → Option Product
 product_of n = cond (n == dmo Rapid) (Some Rapid) (cond (n == dmo Complementary) (Some Complementary) None)
 
+-- how many blocks there are: one or none
 abbrev pub shape_says : KeptShape → Shape
 shape_says s = record { ranges = s.ranges; periods = s.periods; blocks = cond s.block 1 0 }
 

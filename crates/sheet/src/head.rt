@@ -2,7 +2,7 @@
 ghost use Rattle.std.specs.Prelude.{◌≡◌, ◌+◌, ◌<◌, ◌≤◌, length, IfOk};
 ghost use Rattle.sheet.specs.Limits.{longest_name};
 ghost use Rattle.sheet.specs.Read.{head_says, ReadsLine, most_lines, name_says, says_to};
-ghost use Rattle.sheet.specs.Sheet.{domax_line, floor_line, head as head_of, identifier_line, itself, mark_line, product_line};
+ghost use Rattle.sheet.specs.Sheet.{domax as domax_of, domax_line, floor_line, head as head_of, identifier_line, itself, mark_line, product_line};
 
 use crate::fault::SheetFault;
 use crate::product::Product;
@@ -64,16 +64,16 @@ fn read_product(reader: &mut Reader) -> Result<Product, SheetFault>
     Product::with_dmo(dmo).ok_or(SheetFault::Value(reader.line))
 }
 
-/// The number after `DOmax`, which the product fixes.
-fn read_domax(reader: &mut Reader, product: Product) -> Result<u64, SheetFault>
+/// The line of the number after `DOmax`, which the product fixes.
+fn read_domax(reader: &mut Reader, product: Product) -> Result<(), SheetFault>
     requires { reader.old.line < most_lines }
-    ensures { ReadsLine itself (domax_line product) reader.old reader.new result }
+    ensures { ReadsLine (λ _. domax_of product) (domax_line product) reader.old reader.new result }
 {
     let domax = reader.advance(keyed_line(b"DOmax;", reader.rest))?;
     if domax != u64::from(product.domax()) {
         return Err(SheetFault::Value(reader.line));
     }
-    Ok(domax)
+    Ok(())
 }
 
 /// Whether the offer is marked so, by the line of this keyword.
