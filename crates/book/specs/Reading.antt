@@ -41,17 +41,18 @@ pub record SheetsEntered (days text : List ℕ) (judged : Result (List Offer) Re
   pub sheets : all_begin (length days) text (places_of starts) ≡ true
   pub told : offers_at (length days) text (places_of starts) ≡ offers_of table
 
--- that table, or the refusal that was judged. Memory may lack at any time
-abbrev pub SheetsRead : (days text : List ℕ) (judged : Result (List Offer) RegisterFault) → Result (Table × ShortList ℕ 32) DepositFault → Type 0
-SheetsRead days text judged (Err Memory) = Unit {0}
-SheetsRead days text judged (Err (Register fault)) = judged ≡ Err fault
-SheetsRead days text judged (Ok entered) = SheetsEntered days text judged entered.0 entered.1
+-- what is made of a text that was judged, or the refusal. Memory may lack at any time
+abbrev pub Judged : {X : Type 0} → (judged : Result (List Offer) RegisterFault) → (X → Type 0) → Result X DepositFault → Type 0
+Judged judged Made (Err Memory) = Unit {0}
+Judged judged Made (Err (Register fault)) = judged ≡ Err fault
+Judged judged Made (Ok made) = Made made
 
--- a deposit of the list that was judged, under these day counts, or the refusal. Memory may lack at any time
+abbrev pub SheetsRead : (days text : List ℕ) (judged : Result (List Offer) RegisterFault) → Result (Table × ShortList ℕ 32) DepositFault → Type 0
+SheetsRead days text judged = Judged judged (λ entered. SheetsEntered days text judged entered.0 entered.1)
+
+-- a deposit of the list that was judged, under these day counts
 abbrev pub Opened : (days : List ℕ) (judged : Result (List Offer) RegisterFault) → Result Deposit DepositFault → Type 0
-Opened days judged (Err Memory) = Unit {0}
-Opened days judged (Err (Register fault)) = judged ≡ Err fault
-Opened days judged (Ok deposit) = (judged ≡ Ok (sheets_of deposit)) × (days_of deposit ≡ days)
+Opened days judged = Judged judged (λ deposit. (judged ≡ Ok (sheets_of deposit)) × (days_of deposit ≡ days))
 
 -- a deposit is refused as was judged, and the list stays; or the list is the one judged. Memory may lack at any time
 abbrev pub Deposited : (judged : Result (List Offer) RegisterFault) (before after : List Offer) → Result (Unit {0}) DepositFault → Type 0

@@ -96,10 +96,8 @@ impl<'a> Book for Deposit<'a> {
     }
 
     fn price(&self, offer: usize, period: usize, range: usize) -> Option<u32> {
-        if period < 1 {
-            return None;
-        }
-        self.sheet(offer)?.prices_at(period - 1).get(range).copied()
+        let place = period.checked_sub(1)?;
+        self.sheet(offer)?.prices_at(place).get(range).copied()
     }
 
     fn block(&self, offer: usize) -> Option<u32> {

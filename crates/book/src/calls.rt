@@ -8,25 +8,25 @@ ghost use Rattle.book.specs.Table.{Holds, offers_of, periods_of, place_of};
 
 use crate::fault::RegisterFault;
 use crate::others::Others;
-use crate::places::find;
+use crate::places::Identifier;
 use crate::table::{MOST_OFFERS, Table};
 use sheet::Offer;
 
 impl Table {
-    /// The place of the offer of that name and number.
-    fn place(&self, name: &[u8], number: u64) -> Option<usize>
-        ensures value { result ≡ place_of name.now number (offers_of self.now) }
+    /// The place of the offer of that identifier.
+    fn place(&self, identifier: Identifier<'_>) -> Option<usize>
+        ensures value { result ≡ place_of identifier.entry.name.now identifier.entry.number (offers_of self.now) }
         ensures inside { IfSome result (λ i. i < vec_len self.now.offers) }
     {
-        find(self.as_slice(), name, number)
+        identifier.place_in(self.as_slice())
     }
 
-    /// The place of the offer of the same name and number.
+    /// The place of the offer of the same identifier.
     fn place_of(&self, offer: &Offer) -> Option<usize>
         ensures value { result ≡ place_of (facts offer.now).name (facts offer.now).number (offers_of self.now) }
         ensures inside { IfSome result (λ i. i < vec_len self.now.offers) }
     {
-        self.place(offer.name(), u64::from(offer.number()))
+        self.place(Identifier::of(offer))
     }
 
     /// Whether an offer may stand beside all of these.
@@ -82,7 +82,7 @@ impl Table {
         Ok(())
     }
 
-    /// Puts an offer into the place of the one of its name and number, and touches no other.
+    /// Puts an offer into the place of the one of its identifier, and touches no other.
     pub(crate) fn amend(&mut self, offer: Offer) -> Result<(), RegisterFault>
         requires { Fits (periods_of self.old) (facts offer) }
         ensures value { result ≡ amendable (periods_of self.old) (offers_of self.old) (facts offer) }
@@ -94,27 +94,26 @@ impl Table {
         Ok(())
     }
 
-    /// Takes the offer of that name and number out, and keeps the order of the others.
-    pub(crate) fn withdraw(&mut self, name: &[u8], number: u64) -> Result<(), RegisterFault>
-        ensures value { result ≡ withdrawable name.now number (offers_of self.old) }
-        ensures after { Holds self.old self.new (if_ok result (others name.now number (offers_of self.old)) (offers_of self.old)) }
+    /// Takes the offer of that identifier out, and keeps the order of the others.
+    pub(crate) fn withdraw(&mut self, identifier: Identifier<'_>) -> Result<(), RegisterFault>
+        ensures value { result ≡ withdrawable identifier.entry.name.now identifier.entry.number (offers_of self.old) }
+        ensures after { Holds self.old self.new (if_ok result (others identifier.entry.name.now identifier.entry.number (offers_of self.old)) (offers_of self.old)) }
     {
-        let place = self.place(name, number).ok_or(RegisterFault::Unknown)?;
+        let place = self.place(identifier).ok_or(RegisterFault::Unknown)?;
         let _ = self.offers.remove(place);
         Ok(())
     }
 
-    /// Saves the offer of that name and number as its sheet, and tells how many bytes that are.
+    /// Saves the offer of that identifier as its sheet, and tells how many bytes that are.
     pub(crate) fn save(
         &self,
-        name: &[u8],
-        number: u64,
+        identifier: Identifier<'_>,
         buffer: &mut [u8],
     ) -> Result<usize, RegisterFault>
-        ensures value { result ≡ saved_length (length buffer.old) (standing_in name.now number (offers_of self.now)) }
-        ensures buffer { buffer.new ≡ saved_buffer buffer.old (standing_in name.now number (offers_of self.now)) }
+        ensures value { result ≡ saved_length (length buffer.old) (standing_in identifier.entry.name.now identifier.entry.number (offers_of self.now)) }
+        ensures buffer { buffer.new ≡ saved_buffer buffer.old (standing_in identifier.entry.name.now identifier.entry.number (offers_of self.now)) }
     {
-        let place = self.place(name, number).ok_or(RegisterFault::Unknown)?;
+        let place = self.place(identifier).ok_or(RegisterFault::Unknown)?;
         Ok(self.as_slice()[place].save(buffer)?)
     }
 }

@@ -14,6 +14,7 @@ ghost use Rattle.book.specs.Table.{days_of as table_days, offers_of, periods_of 
 
 use crate::fault::RegisterFault;
 use crate::need::Need;
+use crate::places::Identifier;
 use crate::register::Register;
 use crate::table::Table;
 use calendar::{Calendar, MOST_PERIODS};
@@ -77,7 +78,7 @@ impl Register {
         ensures step { Step (periods_of self.old) (roll_of self.old) (Withdraw name.now number) (answer_of result) (roll_of self.new) }
         ensures days { days_of self.new ≡ days_of self.old }
     {
-        self.table.withdraw(name, number)
+        self.table.withdraw(Identifier { name, number })
     }
 
     /// Sets what a period needs of each product, in MW.
@@ -105,7 +106,7 @@ impl Register {
         ensures step { Step (periods_of self.now) (roll_of self.now) (Save name.now number (length buffer.old)) (save_answer_of buffer.new result) (roll_of self.now) }
         ensures buffer { BufferAfter (save_answer_of buffer.new result) buffer.old buffer.new }
     {
-        self.table.save(name, number, buffer)
+        self.table.save(Identifier { name, number }, buffer)
     }
 }
 

@@ -6,19 +6,37 @@ ghost use Rattle.book.specs.Table.{place_of};
 
 use sheet::Offer;
 
-/// Whether an offer has that name and number.
-pub(crate) fn is_named(offer: &Offer, name: &[u8], number: u64) -> bool
-    ensures { result ≡ is name.now number (facts offer.now) }
-{
-    offer.name() == name && u64::from(offer.number()) == number
+/// What an offer is known by: the name of its candidate, and the number by which that one knows it.
+#[derive(Clone, Copy)]
+pub(crate) struct Identifier<'a> {
+    pub(crate) name: &'a [u8],
+    pub(crate) number: u64,
 }
 
-/// The place of the offer of that name and number, counted from 0.
-pub(crate) fn find(offers: &[Offer], name: &[u8], number: u64) -> Option<usize>
-    ensures value { result ≡ place_of name.now number (map facts offers.now) }
-    ensures inside { IfSome result (λ i. i < length offers.now) }
-{
-    offers
-        .iter()
-        .position(|offer| is_named(offer, name, number))
+impl Identifier<'_> {
+    /// That of an offer.
+    pub(crate) fn of(offer: &Offer) -> Identifier<'_>
+        ensures name { result.name.now ≡ (facts offer.now).name }
+        ensures number { result.number ≡ (facts offer.now).number }
+    {
+        Identifier {
+            name: offer.name(),
+            number: u64::from(offer.number()),
+        }
+    }
+
+    /// Whether it is that of an offer.
+    fn is_of(self, offer: &Offer) -> bool
+        ensures { result ≡ is self.entry.name.now self.entry.number (facts offer.now) }
+    {
+        offer.name() == self.name && u64::from(offer.number()) == self.number
+    }
+
+    /// The place of its offer, counted from 0.
+    pub(crate) fn place_in(self, offers: &[Offer]) -> Option<usize>
+        ensures value { result ≡ place_of self.entry.name.now self.entry.number (map facts offers.now) }
+        ensures inside { IfSome result (λ i. i < length offers.now) }
+    {
+        offers.iter().position(|offer| self.is_of(offer))
+    }
 }

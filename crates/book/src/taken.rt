@@ -50,6 +50,7 @@ impl<'a, B: Book> Taken<'a, B> {
     }
 }
 
+#[tactic(auto, using(crate::proofs::TakenAsked::asked_kept, crate::proofs::TakenAsked::width_kept, crate::specs::Taken::length_taken))]
 impl<'a, B: Book> Book for Taken<'a, B> {
     ghost days = { λ t. B.Book.days t.book.now };
 

@@ -2,13 +2,8 @@ use Rattle.std.proofs.Common.{length, ap, ◌∙◌}
 use Rattle.sheet.specs.Sheet.{read}
 use Rattle.book.specs.Places.{places_of}
 use Rattle.book.specs.Reading.{days_of}
-use Rattle.book.proofs.Fronts.{all_after, front_none, front_inside, front_some}
+use Rattle.book.proofs.Fronts.{all_after, front_inside, front_some}
 use Rattle.book.proofs.deposit.Deposit.text_from.Goals as goal
-
-pub returns-in_err-start : goal.returns-in_err-start
-returns-in_err-start c =
-    let self = c.args.self.now in
-    rw c.from_residual.ensures (front_none (length (days_of self)) self.text.now (places_of self.starts) c.args.sheet c.in_err-start.ensures)
 
 pub slice_bounds-result-count : goal.slice_bounds-result-count
 slice_bounds-result-count c =

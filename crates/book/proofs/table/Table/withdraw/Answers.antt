@@ -13,15 +13,15 @@ pub returns-in_err-place-clause-value : goal.returns-in_err-place-clause-value
 returns-in_err-place-clause-value c =
     let none = passed_nowhere c.place.result c.in_err-place.field-0.0 c.in_err-place.ensures.value in
     let p = err_from_is_err_and c.from_residual.result c.from_residual.ensures.1 in
-    rw (p.1, p.2) (ap Err none.1 ∙ withdrawn_nowhere c.args.name.now c.args.number (offers_of c.args.self.now) (sym c.place.ensures.value ∙ none.0))
+    rw (p.1, p.2) (ap Err none.1 ∙ withdrawn_nowhere c.args.identifier.name.now c.args.identifier.number (offers_of c.args.self.now) (sym c.place.ensures.value ∙ none.0))
 
 pub invariant_of-self : goal.invariant_of-self
 invariant_of-self c =
     let self = c.args.self.now in
     let days = days_of self in
     let offers = offers_of self in
-    let name = c.args.name.now in
-    let number = c.args.number in
+    let name = c.args.identifier.name.now in
+    let number = c.args.identifier.number in
     let place = c.in_ok-place.place in
     let found = sym c.place.ensures.value ∙ c.in_ok-place.ensures.ok_part in
     let once = (within_limits days offers self.kept).apart name number in
@@ -33,13 +33,13 @@ invariant_of-self c =
 
 pub returns-clause-value : goal.returns-clause-value
 returns-clause-value c =
-    withdrawn_somewhere c.args.name.now c.args.number (offers_of c.args.self.now) c.in_ok-place.place (sym c.place.ensures.value ∙ c.in_ok-place.ensures.ok_part)
+    withdrawn_somewhere c.args.identifier.name.now c.args.identifier.number (offers_of c.args.self.now) c.in_ok-place.place (sym c.place.ensures.value ∙ c.in_ok-place.ensures.ok_part)
 
 pub returns-clause-after : goal.returns-clause-after
 returns-clause-after c =
     let self = c.args.self.now in
-    let name = c.args.name.now in
-    let number = c.args.number in
+    let name = c.args.identifier.name.now in
+    let number = c.args.identifier.number in
     let place = c.in_ok-place.place in
     let found = sym c.place.ensures.value ∙ c.in_ok-place.ensures.ok_part in
     let once = (within_limits (days_of self) (offers_of self) self.kept).apart name number in

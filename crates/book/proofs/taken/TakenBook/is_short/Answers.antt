@@ -1,6 +1,0 @@
-use Rattle.std.proofs.Common.{sym, refl, ◌∙◌}
-use Rattle.book.proofs.TakenAsked.{asked_kept}
-use Rattle.book.proofs.taken.TakenBook.is_short.Goals as goal
-
-pub returns : goal.returns
-returns g c = c.is_short.ensures ∙ sym (asked_kept c.args.self.now.choice (g.B.Book.offers c.args.self.now.book.now) c.args.offer (λ o. o.short) (λ _. refl))
