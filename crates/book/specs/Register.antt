@@ -1,11 +1,11 @@
 -- What a register means, and how its calls answer. Assumes nothing.
-use Rattle.std.specs.Prelude.{ℕ, List, length, take, Ok, Err, Result}
+use Rattle.std.specs.Prelude.{◌≡◌, ℕ, List, length, take, Ok, Err, Result}
 use Rattle.sheet.specs.Facts.{facts}
 use Rattle.sheet.specs.Offer.{Offer}
 use Rattle.sheet.specs.declared.offer.Offer.{Offer as Kept}
 use Rattle.book.specs.Fault.{number_and_place}
 use Rattle.book.specs.Roll.{Roll}
-use Rattle.book.specs.Step.{Answer, accepted, refusal, text_saved}
+use Rattle.book.specs.Step.{Answer, Call, Step, accepted, refusal, text_saved}
 use Rattle.book.specs.Table.{days_of as table_days, offers_of}
 use Rattle.book.specs.declared.fault.RegisterFault.{RegisterFault}
 use Rattle.book.specs.declared.register.Register.{Register}
@@ -21,6 +21,11 @@ periods_of register = length (days_of register)
 -- the offers that stand in it and its needs by period
 abbrev pub roll_of : Register → Roll
 roll_of register = record { offers = offers_of register.table; needs = take (periods_of register) register.needs }
+
+-- a call turns one register into another: answer and roll are those of its step, and the month stays
+pub record Turns (before : Register) (call : Call) (answer : Answer) (after : Register) : Type 0 where
+  pub step : Step (periods_of before) (roll_of before) call answer (roll_of after)
+  pub days : days_of after ≡ days_of before
 
 -- the answer of a call that is accepted or refused
 abbrev pub answer_of : Result (Unit {0}) RegisterFault → Answer

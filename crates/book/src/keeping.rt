@@ -6,7 +6,7 @@ ghost use Rattle.sheet.specs.Facts.{facts};
 ghost use Rattle.sheet.specs.Saved.{Fits};
 ghost use Rattle.book.specs.Fault.{of_sheet};
 ghost use Rattle.book.specs.Needs.{no_need};
-ghost use Rattle.book.specs.Register.{answer_of, days_of, offer_read, periods_of, roll_of, save_answer_of};
+ghost use Rattle.book.specs.Register.{Turns, answer_of, days_of, offer_read, periods_of, roll_of, save_answer_of};
 ghost use Rattle.book.specs.Roll.{new as new_roll};
 ghost use Rattle.book.specs.Step.{BufferAfter, Step};
 ghost use Rattle.book.specs.Step.{amend as Amend, enter as Enter, need as SetNeed, save as Save, withdraw as Withdraw};
@@ -57,8 +57,7 @@ impl Register {
 
     /// Enters the offer that a sheet tells of, at the end.
     pub fn enter(&mut self, text: &[u8]) -> Result<(), RegisterFault>
-        ensures step { Step (periods_of self.old) (roll_of self.old) (Enter text.now) (answer_of result) (roll_of self.new) }
-        ensures days { days_of self.new ≡ days_of self.old }
+        ensures { Turns self.old (Enter text.now) (answer_of result) self.new }
     {
         let offer = self.read(text)?;
         self.table.enter(offer)
@@ -66,8 +65,7 @@ impl Register {
 
     /// Puts the offer that a sheet tells of into the place of the one of its name and number, and touches no other.
     pub fn amend(&mut self, text: &[u8]) -> Result<(), RegisterFault>
-        ensures step { Step (periods_of self.old) (roll_of self.old) (Amend text.now) (answer_of result) (roll_of self.new) }
-        ensures days { days_of self.new ≡ days_of self.old }
+        ensures { Turns self.old (Amend text.now) (answer_of result) self.new }
     {
         let offer = self.read(text)?;
         self.table.amend(offer)
@@ -75,16 +73,14 @@ impl Register {
 
     /// Takes the offer of that name and number out, and keeps the order of the others.
     pub fn withdraw(&mut self, name: &[u8], number: u64) -> Result<(), RegisterFault>
-        ensures step { Step (periods_of self.old) (roll_of self.old) (Withdraw name.now number) (answer_of result) (roll_of self.new) }
-        ensures days { days_of self.new ≡ days_of self.old }
+        ensures { Turns self.old (Withdraw name.now number) (answer_of result) self.new }
     {
         self.table.withdraw(Identifier { name, number })
     }
 
     /// Sets what a period needs of each product, in MW.
     pub fn need(&mut self, period: u64, rapid: u64, complementary: u64) -> Result<(), RegisterFault>
-        ensures step { Step (periods_of self.old) (roll_of self.old) (SetNeed period rapid complementary) (answer_of result) (roll_of self.new) }
-        ensures days { days_of self.new ≡ days_of self.old }
+        ensures { Turns self.old (SetNeed period rapid complementary) (answer_of result) self.new }
     {
         if period < 1
             || period > self.table.calendar.periods() as u64

@@ -6,9 +6,12 @@ use Rattle.book.specs.Table.{offers_of}
 use Rattle.book.proofs.Steps.{amend_judged}
 use Rattle.book.proofs.register.Register.amend.Goals as goal
 
-pub returns-clause-step : goal.returns-clause-step
-returns-clause-step c =
+pub returns : goal.returns
+returns c =
     let self = c.args.self.now in
     let offers = offers_of c.amend.new.self in
     let step = amend_judged (periods_of self) (roll_of self) c.args.text.now (facts c.in_ok-offer.offer) c.in_ok-offer.ensures.offer c.amend.result offers c.amend.ensures.value c.amend.ensures.after.0 in
-    subst (λ (days : List ℕ). Step (periods_of self) (roll_of self) (Amend c.args.text.now) (answer_of c.amend.result) (record { offers = offers; needs = take (length days) self.needs })) (sym c.amend.ensures.after.1) step
+    record {
+      step = subst (λ (days : List ℕ). Step (periods_of self) (roll_of self) (Amend c.args.text.now) (answer_of c.amend.result) (record { offers = offers; needs = take (length days) self.needs })) (sym c.amend.ensures.after.1) step;
+      days = c.amend.ensures.after.1;
+    }
