@@ -6,12 +6,9 @@ ghost use Rattle.tender_text.specs.Opening.{numbers_read};
 
 use crate::fault::TenderFault;
 use crate::opening::numbers;
-use book::RegisterFault;
+use book::{HIGHEST_NEED, RegisterFault};
 use calendar::Calendar;
 use text::Values;
-
-/// The highest need of a product in a period, in MW.
-const HIGHEST_NEED: u64 = 1_000;
 
 /// Where the first need that is too high stands, counted from 0.
 fn first_high(needs: &[u64]) -> Option<usize>
