@@ -7,9 +7,10 @@ ghost use Rattle.sheet.specs.Read.{ReadsLine, month_rows, most_lines, says_to};
 ghost use Rattle.sheet.specs.Sheet.{block_line, chain, itself, price_line as price_line_of};
 
 use crate::fault::SheetFault;
-use crate::offer::{MOST_PERIODS, PerRange, per_range};
+use crate::offer::{PerRange, per_range};
 use crate::reader::Reader;
 use crate::values::{all_between, never_falling};
+use calendar::MOST_PERIODS;
 use text::{closing_price, price_line};
 
 /// The highest price of a range in a period, in cents.

@@ -7,10 +7,11 @@ ghost use Rattle.sheet.specs.Sheet.{read, read_alone};
 
 use crate::fault::SheetFault;
 use crate::head::{Head, read_head};
-use crate::offer::{MOST_PERIODS, Name, Offer, PerRange};
+use crate::offer::{Name, Offer, PerRange};
 use crate::prices::{read_block, read_rows};
 use crate::reader::Reader;
 use crate::shape::{read_periods, read_shape, read_widths};
+use calendar::MOST_PERIODS;
 use short_list::ShortList;
 
 /// The offer that these lines make, in a month of so many periods.
