@@ -48,9 +48,9 @@ fn read_lines(reader: &mut Reader, periods: usize) -> Result<Offer, SheetFault>
     let month = periods as u64;
     let head = read_head(reader)?;
     let shape = read_shape(reader, month)?;
-    let widths = read_widths(reader, shape.ranges, head.floor)?;
-    let priced = read_periods(reader, month, shape.periods)?;
-    let rows = read_rows(reader, shape.ranges, priced.as_slice())?;
+    let widths = read_widths(reader, shape, head.floor)?;
+    let priced = read_periods(reader, shape, month)?;
+    let rows = read_rows(reader, shape, priced.as_slice())?;
     let block = read_block(reader, shape.block)?;
     Ok(offer_of(head, widths, rows, periods, block))
 }

@@ -9,14 +9,14 @@ pub returns-in_err-shape : goal.returns-in_err-shape
 returns-in_err-shape c =
     let l = c.args.reader.now.line in
     let six = c.in_ok-head.ensures.counts in
-    let seven = one_more l 6 six c.read_shape.ensures.reads.counts in
+    let seven = one_more l 6 six c.read_shape.ensures.counts in
     search rules
 
 pub returns-in_err-widths : goal.returns-in_err-widths
 returns-in_err-widths c =
     let l = c.args.reader.now.line in
     let six = c.in_ok-head.ensures.counts in
-    let seven = one_more l 6 six c.read_shape.ensures.reads.counts in
+    let seven = one_more l 6 six c.read_shape.ensures.counts in
     let eight = one_more l 7 seven c.read_widths.ensures.counts in
     search rules
 
@@ -24,7 +24,7 @@ pub returns-in_err-priced : goal.returns-in_err-priced
 returns-in_err-priced c =
     let l = c.args.reader.now.line in
     let six = c.in_ok-head.ensures.counts in
-    let seven = one_more l 6 six c.read_shape.ensures.reads.counts in
+    let seven = one_more l 6 six c.read_shape.ensures.counts in
     let eight = one_more l 7 seven c.read_widths.ensures.counts in
     let nine = one_more l 8 eight c.read_periods.ensures.reads.counts in
     search rules
@@ -39,7 +39,7 @@ pub returns-in_err-rows : goal.returns-in_err-rows
 returns-in_err-rows c =
     let l = c.args.reader.now.line in
     let six = c.in_ok-head.ensures.counts in
-    let seven = one_more l 6 six c.read_shape.ensures.reads.counts in
+    let seven = one_more l 6 six c.read_shape.ensures.counts in
     let eight = one_more l 7 seven c.read_widths.ensures.counts in
     let nine = one_more l 8 eight c.read_periods.ensures.reads.counts in
     let ten = one_more l 9 nine refl in
@@ -49,7 +49,7 @@ pub returns-in_err-block : goal.returns-in_err-block
 returns-in_err-block c =
     let l = c.args.reader.now.line in
     let six = c.in_ok-head.ensures.counts in
-    let seven = one_more l 6 six c.read_shape.ensures.reads.counts in
+    let seven = one_more l 6 six c.read_shape.ensures.counts in
     let eight = one_more l 7 seven c.read_widths.ensures.counts in
     let nine = one_more l 8 eight c.read_periods.ensures.reads.counts in
     let ten = one_more l 9 nine refl in
@@ -61,7 +61,7 @@ pub returns : goal.returns
 returns c =
     let l = c.args.reader.now.line in
     let six = c.in_ok-head.ensures.counts in
-    let seven = one_more l 6 six c.read_shape.ensures.reads.counts in
+    let seven = one_more l 6 six c.read_shape.ensures.counts in
     let eight = one_more l 7 seven c.read_widths.ensures.counts in
     let nine = one_more l 8 eight c.read_periods.ensures.reads.counts in
     let ten = one_more l 9 nine refl in
