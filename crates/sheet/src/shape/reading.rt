@@ -3,7 +3,7 @@ ghost use Rattle.std.specs.Prelude.{◌≡◌, ◌^◌, ◌<◌, ◌≤◌, leng
 ghost use Rattle.std.specs.List.{AllByRecursion};
 ghost use Rattle.sheet.specs.Facts.{numbers_of};
 ghost use Rattle.sheet.specs.Limits.{most_periods};
-ghost use Rattle.sheet.specs.Read.{InMonth, ReadsLine, most_lines, shape_says};
+ghost use Rattle.sheet.specs.Read.{InMonth, ReadsLine, shape_says};
 ghost use Rattle.sheet.specs.Sheet.{period_line, shape_line, width_line, widths_fit};
 ghost use Rattle.text.specs.Lines.{values_of};
 
@@ -19,8 +19,7 @@ const WIDEST: u64 = 500;
 
 /// How many ranges, periods and blocks there are, in a month of so many periods. A block is for the whole month.
 pub(crate) fn read_shape(reader: &mut Reader, month: u64) -> Result<Shape, SheetFault>
-    requires near { reader.old.line < most_lines }
-    requires few { month ≤ most_periods }
+    requires { month ≤ most_periods }
     ensures { ReadsLine shape_says (shape_line month) reader.old reader.new result }
 {
     let counts = reader.advance(number_line(reader.rest, 3))?;
@@ -57,7 +56,6 @@ pub(crate) fn read_widths(
     shape: Shape,
     floor: u32,
 ) -> Result<PerRange, SheetFault>
-    requires { reader.old.line < most_lines }
     ensures { ReadsLine numbers_of (width_line shape.ranges floor) reader.old reader.new result }
 {
     let values = reader.advance(number_line(reader.rest, shape.ranges))?;
@@ -74,7 +72,6 @@ pub(crate) fn read_periods(
     shape: Shape,
     month: u64,
 ) -> Result<Values, SheetFault>
-    requires { reader.old.line < most_lines }
     ensures reads { ReadsLine values_of (period_line month shape.periods) reader.old reader.new result }
     ensures fits { IfOk result (λ p. InMonth month shape.periods (values_of p)) }
 {
