@@ -1,5 +1,5 @@
 -- What the readers of a sheet answer, by its meaning. Assumes nothing.
-use Rattle.std.specs.Prelude.{◌≡◌, ℕ, ◌+◌, ◌≤◌, min, true, List, map, length, take, Ok, Err, Option, Result, nat_lt, cond, Some, None, ◌==◌}
+use Rattle.std.specs.Prelude.{◌≡◌, ℕ, ◌+◌, ◌-◌, ◌^◌, ◌≤◌, min, true, List, map, length, take, Ok, Err, Option, Result, nat_lt, cond, Some, None, ◌==◌}
 use Rattle.std.specs.Borrow.{Bor}
 use Rattle.std.specs.List.{range_with_len, AllByRecursion}
 use Rattle.sheet.specs.declared.fault.SheetFault.{SheetFault}
@@ -24,13 +24,17 @@ abbrev pub says_to : {X Y : Type 0} → (X → Y) → (rest : List ℕ) → Resu
 says_to says rest (Err f) = Err f
 says_to says rest (Ok x) = Ok (says x, rest)
 
--- far above the number of any line that is read
-abbrev pub most_lines : ℕ
-most_lines = 70000
+-- the highest line that can be counted
+abbrev pub last_line : ℕ
+last_line = 2 ^ 32 - 1
+
+-- the number of the line after line l, as far as lines can be counted
+abbrev pub next_line : (l : ℕ) → ℕ
+next_line l = min (l + 1) last_line
 
 -- how a reader read its next line: it counts the line, and what it answers means what the line says
 pub record ReadsLine {X Y : Type 0} (meaning : X → Y) (line : Line Y) (before after : Reader) (result : Result X SheetFault) : Type 0 where
-  pub counts : after.line ≡ before.line + 1
+  pub counts : after.line ≡ next_line before.line
   pub says : says_to meaning after.rest.now result ≡ line after.line before.rest.now
 
 -- a name's bytes and the number beside it

@@ -1,7 +1,7 @@
 //! Lines 1 to 6 of a sheet: who offers, and what.
-ghost use Rattle.std.specs.Prelude.{◌≡◌, ◌+◌, ◌<◌, ◌≤◌, length, IfOk};
+ghost use Rattle.std.specs.Prelude.{◌≡◌, ◌+◌, ◌≤◌, length, IfOk};
 ghost use Rattle.sheet.specs.Limits.{longest_name};
-ghost use Rattle.sheet.specs.Read.{head_says, ReadsLine, most_lines, name_says, says_to};
+ghost use Rattle.sheet.specs.Read.{head_says, ReadsLine, name_says, says_to};
 ghost use Rattle.sheet.specs.Sheet.{domax as domax_of, domax_line, floor_line, head as head_of, identifier_line, itself, mark_line, product_line};
 
 use crate::fault::SheetFault;
@@ -31,7 +31,6 @@ pub(crate) struct Head<'a> {
 
 /// The name and the offer's number.
 fn read_identifier<'a>(reader: &mut Reader<'a>) -> Result<(&'a [u8], u32), SheetFault>
-    requires { reader.old.line < most_lines }
     ensures reads { ReadsLine name_says identifier_line reader.old reader.new result }
     ensures few { IfOk result (λ p. length p.0.now ≤ longest_name) }
 {
@@ -45,7 +44,6 @@ fn read_identifier<'a>(reader: &mut Reader<'a>) -> Result<(&'a [u8], u32), Sheet
 
 /// The floor, in MW.
 fn read_floor(reader: &mut Reader) -> Result<u32, SheetFault>
-    requires { reader.old.line < most_lines }
     ensures { ReadsLine itself floor_line reader.old reader.new result }
 {
     let floor = reader.advance(keyed_line(b"seuil_minimum;", reader.rest))?;
@@ -57,7 +55,6 @@ fn read_floor(reader: &mut Reader) -> Result<u32, SheetFault>
 
 /// What is offered.
 fn read_product(reader: &mut Reader) -> Result<Product, SheetFault>
-    requires { reader.old.line < most_lines }
     ensures { ReadsLine itself product_line reader.old reader.new result }
 {
     let dmo = reader.advance(keyed_line(b"DMO;", reader.rest))?;
@@ -66,7 +63,6 @@ fn read_product(reader: &mut Reader) -> Result<Product, SheetFault>
 
 /// The line of the number after `DOmax`, which the product fixes.
 fn read_domax(reader: &mut Reader, product: Product) -> Result<(), SheetFault>
-    requires { reader.old.line < most_lines }
     ensures { ReadsLine (λ _. domax_of product) (domax_line product) reader.old reader.new result }
 {
     let domax = reader.advance(keyed_line(b"DOmax;", reader.rest))?;
@@ -78,7 +74,6 @@ fn read_domax(reader: &mut Reader, product: Product) -> Result<(), SheetFault>
 
 /// Whether the offer is marked so, by the line of this keyword.
 fn read_mark(reader: &mut Reader, keyword: &[u8]) -> Result<bool, SheetFault>
-    requires { reader.old.line < most_lines }
     ensures { ReadsLine itself (mark_line keyword.now) reader.old reader.new result }
 {
     match reader.advance(keyed_line(keyword, reader.rest))? {

@@ -16,8 +16,9 @@ mod shape;
 mod values;
 mod writing;
 
+pub use calendar::MOST_PERIODS;
 pub use fault::{SaveFault, SheetFault};
 pub use laws::{read_saves_back, save_says_the_same, save_settles, saved_reads_back};
-pub use offer::{LONGEST_NAME, MOST_PERIODS, MOST_RANGES, Name, Offer, PerRange};
+pub use offer::{LONGEST_NAME, MOST_RANGES, Name, Offer, PerRange};
 pub use product::Product;
 pub use read::{read_alone, read_sheet};

@@ -5,6 +5,7 @@ ghost use Rattle.sheet.specs.Facts.{facts, name_of, numbers_of, row_facts};
 ghost use Rattle.sheet.specs.Limits.{longest_name, most_periods, most_ranges};
 
 use crate::product::Product;
+use calendar::MOST_PERIODS;
 use short_list::ShortList;
 
 /// The most bytes that a name has.
@@ -12,9 +13,6 @@ pub const LONGEST_NAME: usize = 16;
 
 /// The most ranges that an offer has.
 pub const MOST_RANGES: usize = 4;
-
-/// The most periods that a month has.
-pub const MOST_PERIODS: usize = 11;
 
 /// A candidate's name.
 pub type Name = ShortList<u8, LONGEST_NAME>;

@@ -1,15 +1,17 @@
 //! The lines of prices of a sheet, one for each priced period, and the block's.
-ghost use Rattle.std.specs.Prelude.{◌≡◌, ◌+◌, ◌<◌, ◌≤◌, true, map, length, nat_lt, IfOk, if◌then◌else◌};
+ghost use Rattle.std.specs.Prelude.{◌≡◌, ◌+◌, ◌≤◌, true, map, length, nat_lt, IfOk, if◌then◌else◌};
 ghost use Rattle.std.specs.List.{AllByRecursion};
 ghost use Rattle.sheet.specs.Facts.{numbers_of, row_facts};
-ghost use Rattle.sheet.specs.Limits.{most_periods, most_ranges};
-ghost use Rattle.sheet.specs.Read.{ReadsLine, month_rows, most_lines, says_to};
+ghost use Rattle.sheet.specs.Limits.{most_periods};
+ghost use Rattle.sheet.specs.Read.{ReadsLine, last_line, month_rows, next_line, says_to};
 ghost use Rattle.sheet.specs.Sheet.{block_line, chain, itself, price_line as price_line_of};
 
 use crate::fault::SheetFault;
-use crate::offer::{MOST_PERIODS, PerRange, per_range};
+use crate::offer::{PerRange, per_range};
 use crate::reader::Reader;
+use crate::shape::Shape;
 use crate::values::{all_between, never_falling};
+use calendar::MOST_PERIODS;
 use text::{closing_price, price_line};
 
 /// The highest price of a range in a period, in cents.
@@ -20,12 +22,10 @@ const HIGHEST_BLOCK: u64 = 100_000_000;
 
 /// The prices of a period, in cents.
 #[tactic(auto, using(crate::proofs::Judged::prices_small))]
-fn read_row(reader: &mut Reader, ranges: usize) -> Result<PerRange, SheetFault>
-    requires near { reader.old.line < most_lines }
-    requires few { ranges ≤ most_ranges }
-    ensures { ReadsLine numbers_of (price_line_of ranges) reader.old reader.new result }
+fn read_row(reader: &mut Reader, shape: Shape) -> Result<PerRange, SheetFault>
+    ensures { ReadsLine numbers_of (price_line_of shape.ranges) reader.old reader.new result }
 {
-    let values = reader.advance(price_line(reader.rest, ranges))?;
+    let values = reader.advance(price_line(reader.rest, shape.ranges))?;
     let prices = values.as_slice();
     if !all_between(prices, 0, HIGHEST_PRICE) {
         return Err(SheetFault::Value(reader.line));
@@ -39,28 +39,26 @@ fn read_row(reader: &mut Reader, ranges: usize) -> Result<PerRange, SheetFault>
 /// The prices of each priced period, each at its period's place, counted from the month's first.
 pub(crate) fn read_rows(
     reader: &mut Reader,
-    ranges: usize,
+    shape: Shape,
     periods: &[u64],
 ) -> Result<[Option<PerRange>; MOST_PERIODS], SheetFault>
-    requires ranges { ranges ≤ most_ranges }
     requires few { length periods.now ≤ most_periods }
     requires inside { AllByRecursion (λ p. (1 ≤ p) × (p ≤ most_periods)) periods.now }
     requires rising { chain nat_lt periods.now ≡ true }
-    requires near { reader.old.line + most_periods < most_lines }
+    requires near { reader.old.line + most_periods ≤ last_line }
     ensures counts { IfOk result (λ _. reader.new.line ≡ reader.old.line + length periods.now) }
-    ensures says { says_to (map row_facts) reader.new.rest.now result ≡ month_rows ranges periods.now (reader.old.line + 1) reader.old.rest.now }
+    ensures says { says_to (map row_facts) reader.new.rest.now result ≡ month_rows shape.ranges periods.now (reader.old.line + 1) reader.old.rest.now }
 {
     let mut rows = [None; MOST_PERIODS];
     for period in periods {
-        rows[*period as usize - 1] = Some(read_row(reader, ranges)?);
+        rows[*period as usize - 1] = Some(read_row(reader, shape)?);
     }
     Ok(rows)
 }
 
 /// The block's price, in cents, if there is a block.
 pub(crate) fn read_block(reader: &mut Reader, block: bool) -> Result<Option<u32>, SheetFault>
-    requires { reader.old.line < most_lines }
-    ensures { says_to itself reader.new.rest.now result ≡ block_line (if block then 1 else 0) (reader.old.line + 1) reader.old.rest.now }
+    ensures { says_to itself reader.new.rest.now result ≡ block_line (if block then 1 else 0) (next_line reader.old.line) reader.old.rest.now }
 {
     if !block {
         return Ok(None);

@@ -7,10 +7,11 @@ ghost use Rattle.sheet.specs.Sheet.{read, read_alone};
 
 use crate::fault::SheetFault;
 use crate::head::{Head, read_head};
-use crate::offer::{MOST_PERIODS, Name, Offer, PerRange};
+use crate::offer::{Name, Offer, PerRange};
 use crate::prices::{read_block, read_rows};
 use crate::reader::Reader;
 use crate::shape::{read_periods, read_shape, read_widths};
+use calendar::MOST_PERIODS;
 use short_list::ShortList;
 
 /// The offer that these lines make, in a month of so many periods.
@@ -47,9 +48,9 @@ fn read_lines(reader: &mut Reader, periods: usize) -> Result<Offer, SheetFault>
     let month = periods as u64;
     let head = read_head(reader)?;
     let shape = read_shape(reader, month)?;
-    let widths = read_widths(reader, shape.ranges, head.floor)?;
-    let priced = read_periods(reader, month, shape.periods)?;
-    let rows = read_rows(reader, shape.ranges, priced.as_slice())?;
+    let widths = read_widths(reader, shape, head.floor)?;
+    let priced = read_periods(reader, shape, month)?;
+    let rows = read_rows(reader, shape, priced.as_slice())?;
     let block = read_block(reader, shape.block)?;
     Ok(offer_of(head, widths, rows, periods, block))
 }

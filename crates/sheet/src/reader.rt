@@ -1,14 +1,14 @@
 //! A text that is read line by line.
-ghost use Rattle.std.specs.Prelude.{◌≡◌, ◌+◌, ◌<◌, IfOk, IfErr, None, Some};
+ghost use Rattle.std.specs.Prelude.{◌≡◌, IfOk, IfErr, None, Some};
 ghost use Rattle.sheet.specs.declared.fault.SheetFault.TheVariants.{Form};
-ghost use Rattle.sheet.specs.Read.{most_lines};
+ghost use Rattle.sheet.specs.Read.{next_line};
 ghost use Rattle.text.specs.Form.{after, keyed};
 ghost use Rattle.text.specs.Tokens.{rest_read, value_read};
 
 use crate::fault::SheetFault;
 use text::closing_number;
 
-/// What is left of a text, and the number of the line that was read last.
+/// What is left of a text, and the number of the line that was read last, as far as lines can be counted.
 #[derive(Drop)]
 pub(crate) struct Reader<'a> {
     pub(crate) line: u32,
@@ -18,12 +18,11 @@ pub(crate) struct Reader<'a> {
 impl<'a> Reader<'a> {
     /// What the next line says, as it was read from what is left, and the text goes on after it.
     pub(crate) fn advance<T: Drop>(&mut self, read: Option<(T, &'a [u8])>) -> Result<T, SheetFault>
-        requires { self.old.line < most_lines }
-        ensures counts { self.new.line ≡ self.old.line + 1 }
+        ensures counts { self.new.line ≡ next_line self.old.line }
         ensures read { IfOk result (λ said. read.entry ≡ Some (said, self.new.rest)) }
         ensures broken { IfErr result (λ fault. (fault ≡ Form self.new.line) × (read.entry ≡ None)) }
     {
-        self.line += 1;
+        self.line = self.line.saturating_add(1);
         let (said, rest) = read.ok_or(SheetFault::Form(self.line))?;
         self.rest = rest;
         Ok(said)

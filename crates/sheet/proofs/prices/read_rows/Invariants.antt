@@ -2,4 +2,4 @@ use Rattle.sheet.proofs.Placed.{SoFar}
 use Rattle.sheet.proofs.prices.read_rows.Given as goal
 
 abbrev pub invariant-loop-period : goal.invariant-loop-period
-invariant-loop-period l = SoFar l.ranges l.periods l.initial.reader.line l.initial.reader.rest.now l.period-index l.rows l.reader.line l.reader.rest.now
+invariant-loop-period l = SoFar l.shape.ranges l.periods l.initial.reader.line l.initial.reader.rest.now l.period-index l.rows l.reader.line l.reader.rest.now

@@ -7,26 +7,23 @@ use Rattle.sheet.proofs.read.read_lines.Goals as goal
 
 pub returns-in_err-shape : goal.returns-in_err-shape
 returns-in_err-shape c =
-    let l = c.args.reader.now.line in
     let six = c.in_ok-head.ensures.counts in
-    let seven = one_more l 6 six c.read_shape.ensures.reads.counts in
+    let seven = one_more c.requires.near 6 refl six c.read_shape.ensures.counts in
     search rules
 
 pub returns-in_err-widths : goal.returns-in_err-widths
 returns-in_err-widths c =
-    let l = c.args.reader.now.line in
     let six = c.in_ok-head.ensures.counts in
-    let seven = one_more l 6 six c.read_shape.ensures.reads.counts in
-    let eight = one_more l 7 seven c.read_widths.ensures.counts in
+    let seven = one_more c.requires.near 6 refl six c.read_shape.ensures.counts in
+    let eight = one_more c.requires.near 7 refl seven c.read_widths.ensures.counts in
     search rules
 
 pub returns-in_err-priced : goal.returns-in_err-priced
 returns-in_err-priced c =
-    let l = c.args.reader.now.line in
     let six = c.in_ok-head.ensures.counts in
-    let seven = one_more l 6 six c.read_shape.ensures.reads.counts in
-    let eight = one_more l 7 seven c.read_widths.ensures.counts in
-    let nine = one_more l 8 eight c.read_periods.ensures.reads.counts in
+    let seven = one_more c.requires.near 6 refl six c.read_shape.ensures.counts in
+    let eight = one_more c.requires.near 7 refl seven c.read_widths.ensures.counts in
+    let nine = one_more c.requires.near 8 refl eight c.read_periods.ensures.reads.counts in
     search rules
 
 pub read_rows-requires-clause-inside : goal.read_rows-requires-clause-inside
@@ -37,34 +34,31 @@ read_rows-requires-clause-inside c =
 
 pub returns-in_err-rows : goal.returns-in_err-rows
 returns-in_err-rows c =
-    let l = c.args.reader.now.line in
     let six = c.in_ok-head.ensures.counts in
-    let seven = one_more l 6 six c.read_shape.ensures.reads.counts in
-    let eight = one_more l 7 seven c.read_widths.ensures.counts in
-    let nine = one_more l 8 eight c.read_periods.ensures.reads.counts in
-    let ten = one_more l 9 nine refl in
+    let seven = one_more c.requires.near 6 refl six c.read_shape.ensures.counts in
+    let eight = one_more c.requires.near 7 refl seven c.read_widths.ensures.counts in
+    let nine = one_more c.requires.near 8 refl eight c.read_periods.ensures.reads.counts in
+    let ten : c.read_periods.new.reader.line + 1 ≡ c.args.reader.now.line + 10 = omega (arith, nine) in
     search rules
 
 pub returns-in_err-block : goal.returns-in_err-block
 returns-in_err-block c =
-    let l = c.args.reader.now.line in
     let six = c.in_ok-head.ensures.counts in
-    let seven = one_more l 6 six c.read_shape.ensures.reads.counts in
-    let eight = one_more l 7 seven c.read_widths.ensures.counts in
-    let nine = one_more l 8 eight c.read_periods.ensures.reads.counts in
-    let ten = one_more l 9 nine refl in
+    let seven = one_more c.requires.near 6 refl six c.read_shape.ensures.counts in
+    let eight = one_more c.requires.near 7 refl seven c.read_widths.ensures.counts in
+    let nine = one_more c.requires.near 8 refl eight c.read_periods.ensures.reads.counts in
+    let ten : c.read_periods.new.reader.line + 1 ≡ c.args.reader.now.line + 10 = omega (arith, nine) in
     let same : c.as_slice.result.now ≡ values_of c.in_ok-priced.priced = search rules in
     let last : c.read_rows.new.reader.line + 1 ≡ c.args.reader.now.line + 10 + c.in_ok-shape.shape.periods = omega (arith, c.in_ok-rows.ensures.counts, ap length same, c.in_ok-priced.ensures.fits.long) in
     search rules
 
 pub returns : goal.returns
 returns c =
-    let l = c.args.reader.now.line in
     let six = c.in_ok-head.ensures.counts in
-    let seven = one_more l 6 six c.read_shape.ensures.reads.counts in
-    let eight = one_more l 7 seven c.read_widths.ensures.counts in
-    let nine = one_more l 8 eight c.read_periods.ensures.reads.counts in
-    let ten = one_more l 9 nine refl in
+    let seven = one_more c.requires.near 6 refl six c.read_shape.ensures.counts in
+    let eight = one_more c.requires.near 7 refl seven c.read_widths.ensures.counts in
+    let nine = one_more c.requires.near 8 refl eight c.read_periods.ensures.reads.counts in
+    let ten : c.read_periods.new.reader.line + 1 ≡ c.args.reader.now.line + 10 = omega (arith, nine) in
     let same : c.as_slice.result.now ≡ values_of c.in_ok-priced.priced = search rules in
     let last : c.read_rows.new.reader.line + 1 ≡ c.args.reader.now.line + 10 + c.in_ok-shape.shape.periods = omega (arith, c.in_ok-rows.ensures.counts, ap length same, c.in_ok-priced.ensures.fits.long) in
     search rules
