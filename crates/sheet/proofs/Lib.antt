@@ -12,5 +12,4 @@ pub mod Placed
 pub mod Rows
 pub mod Saves
 pub mod SheetKeeps
-pub mod Short
 pub mod Writes

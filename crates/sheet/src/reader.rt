@@ -30,15 +30,11 @@ impl<'a> Reader<'a> {
 }
 
 /// What follows a keyword, given with the semicolon that ends its field.
-#[tactic(auto, using(crate::proofs::Keyword::after_by_test, std::proofs::lemmas::List::take_rest))]
+#[tactic(auto, using(crate::proofs::Keyword::after_by_part))]
 fn after<'a>(keyword: &[u8], text: &'a [u8]) -> Option<&'a [u8]>
     ensures { rest_read result ≡ after keyword.now text.now }
 {
-    if text.starts_with(keyword) {
-        Some(&text[keyword.len()..])
-    } else {
-        None
-    }
+    text.strip_prefix(keyword)
 }
 
 /// The number of a line of a keyword, given with its semicolon, and what follows the line.
