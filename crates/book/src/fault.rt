@@ -5,7 +5,7 @@ ghost use Rattle.book.specs.declared.fault.RegisterFault.TheVariants.{Sheet as B
 use sheet::{SaveFault, SheetFault};
 
 /// Why a register refuses a call.
-#[derive(Clone, Copy, PartialEq)]
+#[derive(Clone, Copy, PartialEq, Eq, Debug)]
 pub enum RegisterFault {
     /// The sheet is refused.
     Sheet(SheetFault),

@@ -5,7 +5,7 @@ use crate::fault::RegisterFault;
 use std::alloc::AllocError;
 
 /// Why a text is not taken for a deposit.
-#[derive(Clone, Copy, PartialEq)]
+#[derive(Clone, Copy, PartialEq, Eq, Debug)]
 pub enum DepositFault {
     /// There is no memory to judge it in.
     Memory,

@@ -3,7 +3,7 @@ ghost use Rattle.std.specs.Prelude.{◌≡◌};
 ghost use Rattle.clearing.specs.Fault.{number_and_place};
 
 /// Why there is no award.
-#[derive(Clone, Copy)]
+#[derive(Clone, Copy, PartialEq, Eq, Debug)]
 pub enum ClearingFault {
     /// The period, as it was given, is not in the month, or its need is too high.
     Period(u64),

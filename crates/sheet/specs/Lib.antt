@@ -6,3 +6,4 @@ pub mod Saved
 pub mod Facts
 pub mod Writing
 pub mod Read
+pub mod Product

@@ -1,7 +1,10 @@
 //! What is offered.
-ghost use Rattle.std.specs.Prelude.{◌≡◌};
+ghost use Rattle.std.specs.Prelude.{◌≡◌, Some};
 ghost use Rattle.sheet.specs.Sheet.{dmo as dmo_of, domax as domax_of};
+ghost use Rattle.sheet.specs.Product.{product_text};
 ghost use Rattle.sheet.specs.Read.{product_of};
+
+use std::fmt;
 
 /// What stands after `DMO` on a sheet of the rapid reserve.
 const RAPID_DMO: u32 = 13;
@@ -54,5 +57,17 @@ impl Product {
             Product::Rapid => RAPID_DOMAX,
             Product::Complementary => COMPLEMENTARY_DOMAX,
         }
+    }
+}
+
+/// A product is printed by its short name.
+impl fmt::Display for Product {
+    ghost output = { λ product. Some (product_text product) };
+
+    fn fmt<W: fmt::Write>(&self, f: &mut fmt::Formatter<W>) -> fmt::Result {
+        f.write_str(match self {
+            Product::Rapid => "RR",
+            Product::Complementary => "RC",
+        })
     }
 }

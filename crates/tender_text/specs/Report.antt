@@ -3,8 +3,7 @@ use Rattle.std.specs.Prelude.{ℕ, ◌+◌, cond, List, [], ◌∷◌, ◌++◌,
 use Rattle.text.specs.Judging.{◌>>=◌}
 use Rattle.text.specs.Written.{line_text}
 use Rattle.sheet.specs.Offer.{Offer, width}
-use Rattle.sheet.specs.declared.product.Product.{Product}
-use Rattle.sheet.specs.declared.product.Product.TheVariants.{Rapid, Complementary}
+use Rattle.sheet.specs.Product.{product_text}
 use Rattle.book.specs.Deposit.{deposited}
 use Rattle.book.specs.declared.fault.RegisterFault.{RegisterFault}
 use Rattle.tender_text.specs.Fault.{number, place}
@@ -50,10 +49,6 @@ period_rows t (days ∷ counts) = line_text (decimal t ∷ decimal days ∷ []) 
 
 abbrev pub period_table : List ℕ → List ℕ
 period_table counts = line_text (codes "period" ∷ codes "days" ∷ []) ++ period_rows 1 counts
-
-abbrev pub product_text : Product → List ℕ
-product_text Rapid = codes "RR"
-product_text Complementary = codes "RC"
 
 -- an offer's row: its name, its number, its product and its MW
 abbrev pub offer_line : Offer → List ℕ

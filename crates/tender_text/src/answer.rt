@@ -18,7 +18,7 @@ pub const MOST_BYTES: usize = 32_768;
 const LINES_BEFORE: u8 = 4;
 
 /// Why a tender's text has no answer but this.
-#[derive(Clone, Copy)]
+#[derive(Clone, Copy, PartialEq, Eq, Debug)]
 pub enum AnswerFault {
     /// The text is refused.
     Refused(TenderFault),

@@ -7,7 +7,7 @@ use calendar::CalendarFault;
 use std::fmt;
 
 /// Why a tender's text is refused.
-#[derive(Clone, Copy)]
+#[derive(Clone, Copy, PartialEq, Eq, Debug)]
 pub enum TenderFault {
     /// A line, counted from the text's first, breaks the form.
     Form(u32),

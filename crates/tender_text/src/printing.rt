@@ -1,11 +1,11 @@
 ghost use Rattle.std.specs.Prelude.{◌≡◌, ◌++◌, map, IfOk, OnOk, string_bytes};
 ghost use Rattle.calendar.specs.Month.{day_counts};
 ghost use Rattle.sheet.specs.Facts.{facts};
-ghost use Rattle.tender_text.specs.Report.{offer_line, offer_table, product_text};
+ghost use Rattle.tender_text.specs.Report.{offer_line, offer_table};
 ghost use Rattle.tender_text.specs.Report.{period_table as table_of};
 
 use calendar::Calendar;
-use sheet::{Offer, Product};
+use sheet::Offer;
 use std::alloc::{AllocError, Global};
 
 /// The table of a month's periods.
@@ -19,22 +19,12 @@ fn period_table(heap: Global, calendar: &Calendar) -> Result<String, AllocError>
     Ok(table)
 }
 
-/// How a product is written.
-fn product_text(product: Product) -> &'static str
-    ensures { result.now ≡ product_text product }
-{
-    match product {
-        Product::Rapid => "RR",
-        Product::Complementary => "RC",
-    }
-}
-
 /// Adds the row of an offer.
 fn add_offer(heap: Global, table: &mut Vec<u8>, offer: &Offer) -> Result<(), AllocError>
     ensures { OnOk result (table.new.items ≡ table.old.items ++ offer_line (facts offer.now)) }
 {
     let number = offer.number();
-    let product = product_text(offer.product());
+    let product = offer.product();
     let width = offer.width();
     let after_name = format!(in heap; ";{number};{product};{width};\n")?;
     table.extend_from_slice(offer.name())?;

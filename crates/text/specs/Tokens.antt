@@ -5,7 +5,7 @@ use Rattle.std.specs.List.{AllByRecursion}
 use Rattle.text.specs.declared.name.Name.{Name}
 use Rattle.text.specs.declared.number.Number.{Number}
 use Rattle.text.specs.declared.price.Price.{Price}
-use Rattle.text.specs.Form.{letter_or_digit, value as value_of_lem}
+use Rattle.text.specs.Form.{letter_or_digit, value as value_of}
 
 -- what follows a part that has to stand there
 abbrev pub rest_read : Option (Bor (List ℕ)) → Option (List ℕ)
@@ -57,7 +57,7 @@ pub record Part (kind : ℕ → Bool) (least most : ℕ) (text part rest : List 
 -- a number of at most so many digits, whose digits are the text as far as the rest
 pub record NumberAt (most : ℕ) (text : List ℕ) (number : Number) (rest : List ℕ) : Type 0 where
   pub stands : text ≡ number.digits.now ++ rest
-  pub valued : number.value ≡ value_of_lem number.digits.now
+  pub valued : number.value ≡ value_of number.digits.now
   pub small : number.value < 10 ^ most
 
 -- a price, whose bytes are the text as far as the rest
@@ -68,7 +68,7 @@ pub record PriceAt (text : List ℕ) (price : Price) (rest : List ℕ) : Type 0 
 -- a name and a number, each with its semicolon, are a line of the text
 pub record NamedAt (text : List ℕ) (name : Name) (number : Number) (rest : List ℕ) : Type 0 where
   pub name_part : Part letter_or_digit 1 16 text name.bytes.now (59 ∷ (number.digits.now ++ (59 ∷ 10 ∷ rest)))
-  pub valued : number.value ≡ value_of_lem number.digits.now
+  pub valued : number.value ≡ value_of number.digits.now
   pub small : number.value < 10 ^ 10
 
 -- the rest is an end of the text

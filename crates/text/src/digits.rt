@@ -1,7 +1,7 @@
 //! Digits at the front of a text, and the number that they write.
 ghost use Rattle.std.specs.Prelude.{IfSome, ◌≡◌, ◌^◌, ◌<◌, ◌≤◌, true, length};
 ghost use Rattle.std.specs.List.{AllByRecursion};
-ghost use Rattle.text.specs.Form.{digit, needless_zero, run as run_of, value as value_of_lem};
+ghost use Rattle.text.specs.Form.{digit, needless_zero, run as run_of, value as value_of};
 ghost use Rattle.text.specs.Tokens.{Part, part_read};
 
 use crate::run::run;
@@ -32,7 +32,7 @@ pub(crate) fn needless_zero(digits: &[u8]) -> bool
 pub(crate) fn value(digits: &[u8]) -> u64
     requires digits { AllByRecursion (λ b. digit b ≡ true) digits.now }
     requires few { length digits.now ≤ 10 }
-    ensures is { result ≡ value_of_lem digits.now }
+    ensures is { result ≡ value_of digits.now }
     ensures small { result < 10 ^ length digits.now }
 {
     let mut value = 0;
