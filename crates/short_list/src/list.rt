@@ -1,4 +1,4 @@
-ghost use Rattle.std.specs.Prelude.{◌≡◌, ◌≤◌, [], ◌∷◌, ◌++◌, length, take};
+ghost use Rattle.std.specs.Prelude.{◌≡◌, ◌≤◌, [], ◌∷◌, ◌++◌, length, min, replicate, slice_set, take};
 ghost use Rattle.std.specs.List.{slice_get};
 ghost use Rattle.short_list.specs.ShortList.{items};
 
@@ -17,6 +17,16 @@ impl<T: Copy + Default, const N: usize> ShortList<T, N> {
         ShortList {
             slots: [T::default(); N],
             len: 0,
+        }
+    }
+
+    /// One value so many times, but at most `N` times.
+    pub fn filled(value: T, len: usize) -> ShortList<T, N>
+        ensures { items result ≡ replicate (min len N) value }
+    {
+        ShortList {
+            slots: [value; N],
+            len: len.min(N),
         }
     }
 
@@ -63,6 +73,14 @@ impl<T: Copy, const N: usize> ShortList<T, N> {
         if self.len < N {
             self.slots[self.len] = value;
             self.len += 1;
+        }
+    }
+    /// Puts a value into the place of another, counted from 0; past the end nothing changes.
+    pub fn set(&mut self, place: usize, value: T)
+        ensures { items self.new ≡ slice_set (items self.old) place value }
+    {
+        if place < self.len() {
+            self.slots[place] = value;
         }
     }
 }
