@@ -1,8 +1,5 @@
 -- A call on a register is the roll's own step.
-use Rattle.std.proofs.Common.{◌≡◌, ℕ, ◌-◌, ◌≤◌, List, take, set, Ok, Err, Result, sym, refl, ap, ◌∙◌, subst, arith}
-use Rattle.std.proofs.lemmas.Bool.{le-leb}
-use Rattle.std.proofs.Math.Seq.{take-set-lt}
-use Rattle.book.specs.declared.need.Need.{Need}
+use Rattle.std.proofs.Common.{◌≡◌, ℕ, List, Ok, Err, Result, sym, refl, ap, ◌∙◌, subst}
 use Rattle.sheet.specs.Offer.{Offer}
 use Rattle.sheet.specs.Sheet.{read_alone}
 use Rattle.text.specs.Judging.{◌>>◌, must}
@@ -10,7 +7,7 @@ use Rattle.book.specs.Calls.{amendable, if_ok}
 use Rattle.book.specs.Fault.{of_sheet}
 use Rattle.book.specs.Register.{answer_of}
 use Rattle.book.specs.Roll.{Roll, stands, others, beside, replaced, amended}
-use Rattle.book.specs.Step.{Step, Changed, amend, need, accepted}
+use Rattle.book.specs.Step.{Step, Changed, amend, accepted}
 use Rattle.book.specs.declared.fault.RegisterFault.{RegisterFault}
 use Rattle.book.specs.declared.fault.RegisterFault.TheVariants.{Unknown}
 
@@ -36,8 +33,3 @@ module _ (T : ℕ) (roll : Roll) (text : List ℕ) where
         go (Ok u) (Ok v) is = rw is refl
         go (Ok u) (Err fault) is = rw is refl
         go (Err fault) b is = rw is refl
-
-pub need_set : (T : ℕ) (offers : List Offer) (needs : List Need) (t rr rc : ℕ) → 1 ≤ t → t ≤ T → rr ≤ 1000 → rc ≤ 1000 → Step T (record { offers = offers; needs = take T needs }) (need t rr rc) accepted (record { offers = offers; needs = take T (set needs (t - 1) (record { rapid = rr; complementary = rc })) })
-need_set T offers needs t rr rc low high rr_low rc_low =
-    rw (le-leb 1 t low, le-leb t T high, le-leb rr 1000 rr_low, le-leb rc 1000 rc_low)
-    (refl, ap (λ (ns : List Need). record { offers = offers; needs = ns }) (take-set-lt T needs (t - 1) (record { rapid = rr; complementary = rc }) (omega arith)))

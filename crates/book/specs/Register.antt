@@ -1,5 +1,6 @@
 -- What a register means, and how its calls answer. Assumes nothing.
 use Rattle.std.specs.Prelude.{◌≡◌, ℕ, List, length, take, Ok, Err, Result}
+use Rattle.short_list.specs.ShortList.{items}
 use Rattle.sheet.specs.Facts.{facts}
 use Rattle.sheet.specs.Offer.{Offer}
 use Rattle.sheet.specs.declared.offer.Offer.{Offer as Kept}
@@ -20,7 +21,7 @@ periods_of register = length (days_of register)
 
 -- the offers that stand in it and its needs by period
 abbrev pub roll_of : Register → Roll
-roll_of register = record { offers = offers_of register.table; needs = take (periods_of register) register.needs }
+roll_of register = record { offers = offers_of register.table; needs = items register.needs }
 
 -- a call turns one register into another: answer and roll are those of its step, and the month stays
 pub record Turns (before : Register) (call : Call) (answer : Answer) (after : Register) : Type 0 where

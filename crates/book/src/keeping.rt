@@ -17,8 +17,9 @@ use crate::need::Need;
 use crate::places::Identifier;
 use crate::register::Register;
 use crate::table::Table;
-use calendar::{Calendar, MOST_PERIODS};
+use calendar::Calendar;
 use sheet::{Offer, read_alone};
+use short_list::ShortList;
 use std::alloc::{AllocError, Global};
 
 /// The highest need of a product in a period, in MW.
@@ -30,10 +31,8 @@ impl Register {
         ensures days { days_of result ≡ table_days table }
         ensures roll { roll_of result ≡ record { offers = offers_of table; needs = replicate (periods_in table) no_need } }
     {
-        Register {
-            table,
-            needs: [Need::default(); MOST_PERIODS],
-        }
+        let needs = ShortList::filled(Need::default(), table.calendar.periods());
+        Register { table, needs }
     }
 
     /// A register for a month, empty and with no needs. The room for all its offers is reserved here, and nowhere else is
@@ -89,10 +88,11 @@ impl Register {
         {
             return Err(RegisterFault::Period(period));
         }
-        self.needs[period as usize - 1] = Need {
+        let need = Need {
             rapid: rapid as u32,
             complementary: complementary as u32,
         };
+        self.needs.set(period as usize - 1, need);
         Ok(())
     }
 

@@ -1,13 +1,16 @@
 ghost use Rattle.std.specs.Prelude.{◌≡◌, length};
+ghost use Rattle.short_list.specs.ShortList.{items};
+ghost use Rattle.book.specs.Table.{periods_of};
 
 use crate::need::Need;
 use crate::table::Table;
 use calendar::MOST_PERIODS;
+use short_list::ShortList;
 
 /// The book that a clerk keeps through a month: the offers that stand and what each period needs.
 #[derive(Drop)]
 pub struct Register {
     pub(crate) table: Table,
-    pub(crate) needs: [Need; MOST_PERIODS],
-    ghost whole: { length needs ≡ 11 },
+    pub(crate) needs: ShortList<Need, MOST_PERIODS>,
+    ghost whole: { length (items needs) ≡ periods_of table },
 }
