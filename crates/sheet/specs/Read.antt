@@ -1,5 +1,5 @@
 -- What the readers of a sheet answer, by its meaning. Assumes nothing.
-use Rattle.std.specs.Prelude.{◌≡◌, ℕ, ◌+◌, ◌-◌, ◌^◌, ◌≤◌, min, true, List, map, length, take, Ok, Err, Option, Result, nat_lt, cond, Some, None, ◌==◌}
+use Rattle.std.specs.Prelude.{◌≡◌, ℕ, ◌+◌, ◌-◌, ◌^◌, ◌≤◌, min, true, List, map, length, Ok, Err, Option, Result, nat_lt, cond, Some, None, ◌==◌}
 use Rattle.std.specs.Borrow.{Bor}
 use Rattle.std.specs.List.{range_with_len, AllByRecursion}
 use Rattle.sheet.specs.declared.fault.SheetFault.{SheetFault}
@@ -52,9 +52,9 @@ shape_says s = record { ranges = s.ranges; periods = s.periods; blocks = cond s.
 abbrev pub head_says : KeptHead → Head
 head_says h = record { name = h.name.now; number = h.number; floor = h.floor; product = h.product; observed = h.observed; short = h.short }
 
--- the lines of prices for these periods: the row of each period of the longest month
-abbrev pub month_rows : (n : ℕ) → (periods : List ℕ) → Line (List (Option (List ℕ)))
-month_rows n periods l text = price_lines n (length periods) l text >>>= (λ p. Ok (map (row_of periods p.0) (range_with_len 1 most_periods), p.1))
+-- m lines of prices, of these periods: the row of each period of a month of T periods
+abbrev pub month_rows : (T n m : ℕ) → (periods : List ℕ) → Line (List (Option (List ℕ)))
+month_rows T n m periods l text = price_lines n m l text >>>= (λ p. Ok (map (row_of periods p.0) (range_with_len 1 T), p.1))
 
 -- so many rising periods of a month of T periods
 pub record InMonth (T count : ℕ) (periods : List ℕ) : Type 0 where
@@ -62,9 +62,9 @@ pub record InMonth (T count : ℕ) (periods : List ℕ) : Type 0 where
   pub each : AllByRecursion (λ p. (1 ≤ p) × (p ≤ T)) periods
   pub rising : chain nat_lt periods ≡ true
 
--- the offer of these lines, with the row of each period of the longest month, of which a month of T periods takes the first
-abbrev pub by_month : (T : ℕ) → Head → (widths : List ℕ) → List (Option (List ℕ)) → Option ℕ → Offer
-by_month T h widths table block = record {
+-- the offer of these lines, with the row of each period of the month
+abbrev pub by_month : Head → (widths : List ℕ) → (rows : List (Option (List ℕ))) → (block : Option ℕ) → Offer
+by_month h widths rows block = record {
   name = h.name;
   number = h.number;
   floor = h.floor;
@@ -72,7 +72,7 @@ by_month T h widths table block = record {
   observed = h.observed;
   short = h.short;
   widths = widths;
-  rows = take T table;
+  rows = rows;
   block = block;
 }
 
@@ -82,9 +82,9 @@ read_by_month T before text =
     shape_line T (before + 7) p.1 >>>= λ q.
     width_line q.0.ranges p.0.floor (before + 8) q.1 >>>= λ w.
     period_line T q.0.periods (before + 9) w.1 >>>= λ t.
-    month_rows q.0.ranges t.0 (before + 10) t.1 >>>= λ m.
+    month_rows T q.0.ranges q.0.periods t.0 (before + 10) t.1 >>>= λ m.
     block_line q.0.blocks (before + 10 + q.0.periods) m.1 >>>= λ b.
-    Ok (by_month T p.0 w.0 m.0 b.0, b.1)
+    Ok (by_month p.0 w.0 m.0 b.0, b.1)
 
 -- a month has at most 11 periods: more are taken for 11
 abbrev pub month_of : (periods : ℕ) → ℕ

@@ -20,6 +20,9 @@ pub type Name = ShortList<u8, LONGEST_NAME>;
 /// A number for each range of an offer, in the ranges' order.
 pub type PerRange = ShortList<u32, MOST_RANGES>;
 
+/// For each period of a month the numbers of its ranges, or none where the offer does not stand in it.
+pub(crate) type Rows = ShortList<Option<PerRange>, MOST_PERIODS>;
+
 /// What a sheet says.
 #[derive(Clone, Copy)]
 pub struct Offer {
@@ -32,8 +35,8 @@ pub struct Offer {
     pub(crate) short: bool,
     /// MW of each range.
     pub(crate) widths: PerRange,
-    /// For each period of the month the cents per MW of each range, or none where the offer does not stand in it.
-    pub(crate) rows: ShortList<Option<PerRange>, MOST_PERIODS>,
+    /// Cents per MW of each range, in each period.
+    pub(crate) rows: Rows,
     /// The cents of one MW of all ranges for the whole month.
     pub(crate) block: Option<u32>,
 }

@@ -1,17 +1,16 @@
 //! The lines of prices of a sheet, one for each priced period, and the block's.
-ghost use Rattle.std.specs.Prelude.{◌≡◌, ◌+◌, ◌≤◌, true, map, length, nat_lt, IfOk, if◌then◌else◌};
-ghost use Rattle.std.specs.List.{AllByRecursion};
+ghost use Rattle.std.specs.Prelude.{◌≡◌, ◌+◌, ◌≤◌, map, IfOk, if◌then◌else◌};
 ghost use Rattle.sheet.specs.Facts.{numbers_of, row_facts};
 ghost use Rattle.sheet.specs.Limits.{most_periods};
-ghost use Rattle.sheet.specs.Read.{ReadsLine, last_line, month_rows, next_line, says_to};
-ghost use Rattle.sheet.specs.Sheet.{block_line, chain, itself, price_line as price_line_of};
+ghost use Rattle.sheet.specs.Read.{InMonth, ReadsLine, last_line, month_rows, next_line, says_to};
+ghost use Rattle.sheet.specs.Sheet.{block_line, itself, price_line as price_line_of};
+ghost use Rattle.short_list.specs.ShortList.{items};
 
 use crate::fault::SheetFault;
-use crate::offer::{PerRange, per_range};
+use crate::offer::{PerRange, Rows, per_range};
 use crate::reader::Reader;
 use crate::shape::Shape;
 use crate::values::{all_between, never_falling};
-use calendar::MOST_PERIODS;
 use text::{closing_price, price_line};
 
 /// The highest price of a range in a period, in cents.
@@ -36,22 +35,22 @@ fn read_row(reader: &mut Reader, shape: Shape) -> Result<PerRange, SheetFault>
     Ok(per_range(prices))
 }
 
-/// The prices of each priced period, each at its period's place, counted from the month's first.
+/// The prices of each period of the month that is among these priced ones.
 pub(crate) fn read_rows(
     reader: &mut Reader,
     shape: Shape,
+    month: usize,
     periods: &[u64],
-) -> Result<[Option<PerRange>; MOST_PERIODS], SheetFault>
-    requires few { length periods.now ≤ most_periods }
-    requires inside { AllByRecursion (λ p. (1 ≤ p) × (p ≤ most_periods)) periods.now }
-    requires rising { chain nat_lt periods.now ≡ true }
+) -> Result<Rows, SheetFault>
+    requires few { month ≤ most_periods }
+    requires fits { InMonth month shape.periods periods.now }
     requires near { reader.old.line + most_periods ≤ last_line }
-    ensures counts { IfOk result (λ _. reader.new.line ≡ reader.old.line + length periods.now) }
-    ensures says { says_to (map row_facts) reader.new.rest.now result ≡ month_rows shape.ranges periods.now (reader.old.line + 1) reader.old.rest.now }
+    ensures counts { IfOk result (λ _. reader.new.line ≡ reader.old.line + shape.periods) }
+    ensures says { says_to (λ rows. map row_facts (items rows)) reader.new.rest.now result ≡ month_rows month shape.ranges shape.periods periods.now (reader.old.line + 1) reader.old.rest.now }
 {
-    let mut rows = [None; MOST_PERIODS];
+    let mut rows = Rows::filled(None, month);
     for period in periods {
-        rows[*period as usize - 1] = Some(read_row(reader, shape)?);
+        rows.set(*period as usize - 1, Some(read_row(reader, shape)?));
     }
     Ok(rows)
 }

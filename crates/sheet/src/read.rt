@@ -4,27 +4,20 @@ ghost use Rattle.sheet.specs.Facts.{facts, numbers_of, row_facts};
 ghost use Rattle.sheet.specs.Limits.{longest_name, most_periods};
 ghost use Rattle.sheet.specs.Read.{alone_read, by_month, head_says, line_read, month_of, read_by_month, says_to};
 ghost use Rattle.sheet.specs.Sheet.{read, read_alone};
+ghost use Rattle.short_list.specs.ShortList.{items};
 
 use crate::fault::SheetFault;
 use crate::head::{Head, read_head};
-use crate::offer::{Name, Offer, PerRange};
+use crate::offer::{Name, Offer, PerRange, Rows};
 use crate::prices::{read_block, read_rows};
 use crate::reader::Reader;
 use crate::shape::{read_periods, read_shape, read_widths};
 use calendar::MOST_PERIODS;
-use short_list::ShortList;
 
-/// The offer that these lines make, in a month of so many periods.
-fn offer_of(
-    head: Head,
-    widths: PerRange,
-    rows: [Option<PerRange>; MOST_PERIODS],
-    periods: usize,
-    block: Option<u32>,
-) -> Offer
-    requires few { periods ≤ most_periods }
+/// The offer that these lines make.
+fn offer_of(head: Head, widths: PerRange, rows: Rows, block: Option<u32>) -> Offer
     requires short { length head.name.now ≤ longest_name }
-    ensures { facts result ≡ by_month periods (head_says head.entry) (numbers_of widths) (map row_facts rows) block }
+    ensures { facts result ≡ by_month (head_says head.entry) (numbers_of widths) (map row_facts (items rows)) block }
 {
     Offer {
         name: Name::from_slice(head.name),
@@ -34,7 +27,7 @@ fn offer_of(
         observed: head.observed,
         short: head.short,
         widths,
-        rows: ShortList::from_slice(&rows[..periods]),
+        rows,
         block,
     }
 }
@@ -50,9 +43,9 @@ fn read_lines(reader: &mut Reader, periods: usize) -> Result<Offer, SheetFault>
     let shape = read_shape(reader, month)?;
     let widths = read_widths(reader, shape, head.floor)?;
     let priced = read_periods(reader, shape, month)?;
-    let rows = read_rows(reader, shape, priced.as_slice())?;
+    let rows = read_rows(reader, shape, periods, priced.as_slice())?;
     let block = read_block(reader, shape.block)?;
-    Ok(offer_of(head, widths, rows, periods, block))
+    Ok(offer_of(head, widths, rows, block))
 }
 
 /// Reads the sheet at the front of a text, in a month of so many periods and with so many lines before it, and tells what
