@@ -97,12 +97,11 @@ impl Offer {
         ensures buffer { buffer.new ≡ buffer_after (written (facts self.now)) buffer.old }
     {
         let room = buffer.len();
-        match self.put(&mut []) {
-            Some(length) if length <= room => {
-                self.put(buffer);
-                Ok(length)
-            }
-            _ => Err(SaveFault::Space),
-        }
+        let length = self
+            .put(&mut [])
+            .filter(|length| *length <= room)
+            .ok_or(SaveFault::Space)?;
+        self.put(buffer);
+        Ok(length)
     }
 }
