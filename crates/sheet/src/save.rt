@@ -29,7 +29,7 @@ impl Offer {
         ensures { so_far sheet.new ≡ with_text (so_far sheet.old) (shape_text (facts self.now)) }
     {
         sheet.line::<Whole>(&[
-            self.widths.as_slice().len() as u32,
+            self.widths.len() as u32,
             self.priced_count(),
             u32::from(self.block.is_some()),
         ]);
@@ -39,9 +39,9 @@ impl Offer {
     fn put_periods(&self, sheet: &mut Writer<'_>)
         ensures { so_far sheet.new ≡ with_text (so_far sheet.old) (line_text (map (λ p. decimal p.0) (priced 1 (facts self.now).rows))) }
     {
-        for (place, row) in self.rows.as_slice().iter().enumerate() {
+        for (period, row) in (1_u32..).zip(self.rows.as_slice()) {
             if row.is_some() {
-                sheet.field::<Whole>(place as u32 + 1);
+                sheet.field::<Whole>(period);
             }
         }
         sheet.byte(b'\n');
