@@ -9,7 +9,7 @@ use calendar::MOST_PERIODS;
 use short_list::ShortList;
 
 /// The most bytes that a name has.
-pub const LONGEST_NAME: usize = 16;
+pub const LONGEST_NAME: usize = text::NAME_BYTES;
 
 /// The most ranges that an offer has.
 pub const MOST_RANGES: usize = 4;
