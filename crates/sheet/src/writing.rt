@@ -3,6 +3,8 @@ ghost use Rattle.std.specs.Prelude.{◌≡◌, ℕ, [], ◌∷◌, ◌++◌, Lis
 ghost use Rattle.sheet.specs.Writing.{with_text, fresh, so_far};
 ghost use Rattle.text.specs.Written.{line_text, price_text};
 
+use itoa::Buffer;
+
 /// Where a text is written. What does not fit is cut off at the buffer's end, but counted all the same: so what writes a
 /// text into no room at all measures it.
 #[derive(Drop)]
@@ -96,10 +98,7 @@ impl Form for Whole {
     ghost text = { decimal };
 
     fn put(writer: &mut Writer<'_>, number: u32) {
-        if number >= 10 {
-            Whole::put(writer, number / 10);
-        }
-        writer.byte(b'0' + (number % 10) as u8);
+        writer.bytes(Buffer::new().format(number).as_bytes());
     }
 }
 
