@@ -1,8 +1,9 @@
 -- What the readers of a sheet answer, by its meaning. Assumes nothing.
-use Rattle.std.specs.Prelude.{◌≡◌, ℕ, ◌+◌, ◌-◌, ◌^◌, ◌≤◌, min, true, List, map, length, Ok, Err, Option, Result, nat_lt, cond, Some, None, ◌==◌}
+use Rattle.std.specs.Prelude.{◌≡◌, ℕ, ◌+◌, ◌-◌, ◌^◌, ◌≤◌, min, Bool, true, List, map, length, Ok, Err, Option, Result, nat_le, nat_lt, cond, Some, None, ◌==◌}
 use Rattle.std.specs.Borrow.{Bor}
 use Rattle.std.specs.List.{range_with_len, AllByRecursion}
 use Rattle.sheet.specs.declared.fault.SheetFault.{SheetFault}
+use Rattle.sheet.specs.declared.fault.SheetFault.TheVariants.{Form, Value}
 use Rattle.sheet.specs.declared.head.Head.{Head as KeptHead}
 use Rattle.sheet.specs.declared.reader.Reader.{Reader}
 use Rattle.sheet.specs.declared.shape.Shape.{Shape as KeptShape}
@@ -37,6 +38,11 @@ pub record ReadsLine {X Y : Type 0} (meaning : X → Y) (line : Line Y) (before 
   pub counts : after.line ≡ next_line before.line
   pub says : says_to meaning after.rest.now result ≡ line after.line before.rest.now
 
+-- the fault of line l, of which this was read: it has not the form, or values that do not fit
+abbrev pub RefusesLine : {X R : Type 0} → (l : ℕ) → (Unfit : X → Type 0) → Option (X × R) → SheetFault → Type 0
+RefusesLine l Unfit None fault = fault ≡ Form l
+RefusesLine l Unfit (Some (x, rest)) fault = (fault ≡ Value l) × Unfit x
+
 -- a name's bytes and the number beside it
 abbrev pub name_says : Bor (List ℕ) × ℕ → List ℕ × ℕ
 name_says (name, number) = (name.now, number)
@@ -44,6 +50,10 @@ name_says (name, number) = (name.now, number)
 -- the product on whose sheets a number stands after DMO
 abbrev pub product_of : ℕ → Option Product
 product_of n = cond (n == dmo Rapid) (Some Rapid) (cond (n == dmo Complementary) (Some Complementary) None)
+
+-- what a number that is a mark says
+abbrev pub flag_of : ℕ → Option Bool
+flag_of n = cond (nat_le n 1) (Some (n == 1)) None
 
 -- how many blocks there are: one or none
 abbrev pub shape_says : KeptShape → Shape

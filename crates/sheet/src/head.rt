@@ -7,6 +7,7 @@ ghost use Rattle.sheet.specs.Sheet.{domax as domax_of, domax_line, floor_line, h
 use crate::fault::SheetFault;
 use crate::product::Product;
 use crate::reader::{Reader, keyed_line};
+use crate::values::flag;
 use text::named_line;
 
 /// The highest number of an offer.
@@ -35,10 +36,7 @@ fn read_identifier<'a>(reader: &mut Reader<'a>) -> Result<(&'a [u8], u32), Sheet
     ensures few { IfOk result (λ p. length p.0.now ≤ longest_name) }
 {
     let named = named_line(reader.rest).map(|(name, number, rest)| ((name, number), rest));
-    let (name, number) = reader.advance(named)?;
-    if number.value > HIGHEST_NUMBER {
-        return Err(SheetFault::Value(reader.line));
-    }
+    let (name, number) = reader.fitting(named, |said| said.1.value <= HIGHEST_NUMBER)?;
     Ok((name.bytes, number.value as u32))
 }
 
@@ -46,10 +44,8 @@ fn read_identifier<'a>(reader: &mut Reader<'a>) -> Result<(&'a [u8], u32), Sheet
 fn read_floor(reader: &mut Reader) -> Result<u32, SheetFault>
     ensures { ReadsLine itself floor_line reader.old reader.new result }
 {
-    let floor = reader.advance(keyed_line(b"seuil_minimum;", reader.rest))?;
-    if !(LOWEST_FLOOR..=HIGHEST_FLOOR).contains(&floor) {
-        return Err(SheetFault::Value(reader.line));
-    }
+    let read = keyed_line(b"seuil_minimum;", reader.rest);
+    let floor = reader.fitting(read, |floor| (LOWEST_FLOOR..=HIGHEST_FLOOR).contains(floor))?;
     Ok(floor as u32)
 }
 
@@ -65,10 +61,8 @@ fn read_product(reader: &mut Reader) -> Result<Product, SheetFault>
 fn read_domax(reader: &mut Reader, product: Product) -> Result<(), SheetFault>
     ensures { ReadsLine (λ _. domax_of product) (domax_line product) reader.old reader.new result }
 {
-    let domax = reader.advance(keyed_line(b"DOmax;", reader.rest))?;
-    if domax != u64::from(product.domax()) {
-        return Err(SheetFault::Value(reader.line));
-    }
+    let read = keyed_line(b"DOmax;", reader.rest);
+    reader.fitting(read, |domax| *domax == u64::from(product.domax()))?;
     Ok(())
 }
 
@@ -76,11 +70,8 @@ fn read_domax(reader: &mut Reader, product: Product) -> Result<(), SheetFault>
 fn read_mark(reader: &mut Reader, keyword: &[u8]) -> Result<bool, SheetFault>
     ensures { ReadsLine itself (mark_line keyword.now) reader.old reader.new result }
 {
-    match reader.advance(keyed_line(keyword, reader.rest))? {
-        0 => Ok(false),
-        1 => Ok(true),
-        _ => Err(SheetFault::Value(reader.line)),
-    }
+    let number = reader.advance(keyed_line(keyword, reader.rest))?;
+    flag(number).ok_or(SheetFault::Value(reader.line))
 }
 
 /// The first six lines.

@@ -24,15 +24,12 @@ const HIGHEST_BLOCK: u64 = 100_000_000;
 fn read_row(reader: &mut Reader, shape: Shape) -> Result<PerRange, SheetFault>
     ensures { ReadsLine numbers_of (price_line_of shape.ranges) reader.old reader.new result }
 {
-    let values = reader.advance(price_line(reader.rest, shape.ranges))?;
-    let prices = values.as_slice();
-    if !all_between(prices, 0, HIGHEST_PRICE) {
-        return Err(SheetFault::Value(reader.line));
-    }
-    if !never_falling(prices) {
+    let read = price_line(reader.rest, shape.ranges);
+    let row = reader.fitting(read, |row| all_between(row.as_slice(), 0, HIGHEST_PRICE))?;
+    if !never_falling(row.as_slice()) {
         return Err(SheetFault::Order(reader.line));
     }
-    Ok(per_range(prices))
+    Ok(per_range(row.as_slice()))
 }
 
 /// The prices of each period of the month that is among these priced ones.
@@ -62,9 +59,7 @@ pub(crate) fn read_block(reader: &mut Reader, block: bool) -> Result<Option<u32>
     if !block {
         return Ok(None);
     }
-    let price = reader.advance(closing_price(reader.rest))?;
-    if price.cents > HIGHEST_BLOCK {
-        return Err(SheetFault::Value(reader.line));
-    }
+    let read = closing_price(reader.rest);
+    let price = reader.fitting(read, |price| price.cents <= HIGHEST_BLOCK)?;
     Ok(Some(price.cents as u32))
 }

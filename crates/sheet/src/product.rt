@@ -42,11 +42,9 @@ impl Product {
     pub(crate) fn with_dmo(dmo: u64) -> Option<Product>
         ensures { result ≡ product_of dmo }
     {
-        match u32::try_from(dmo) {
-            Ok(RAPID_DMO) => Some(Product::Rapid),
-            Ok(COMPLEMENTARY_DMO) => Some(Product::Complementary),
-            _ => None,
-        }
+        [Product::Rapid, Product::Complementary]
+            .into_iter()
+            .find(|product| u64::from(product.dmo()) == dmo)
     }
 
     /// What stands after `DOmax` on its sheets.

@@ -1,7 +1,8 @@
 //! A text that is read line by line.
-ghost use Rattle.std.specs.Prelude.{◌≡◌, IfOk, IfErr, None, Some};
+ghost use Rattle.std.specs.Prelude.{◌≡◌, IfOk, IfErr, IfSome, None, Some, true, false};
+ghost use Rattle.std.specs.Fn.{FnOnceReturnsAt, FnOnceTakesAt};
 ghost use Rattle.sheet.specs.declared.fault.SheetFault.TheVariants.{Form};
-ghost use Rattle.sheet.specs.Read.{next_line};
+ghost use Rattle.sheet.specs.Read.{RefusesLine, next_line};
 ghost use Rattle.text.specs.Form.{after, keyed};
 ghost use Rattle.text.specs.Tokens.{rest_read, value_read};
 
@@ -25,6 +26,24 @@ impl<'a> Reader<'a> {
         self.line = self.line.saturating_add(1);
         let (said, rest) = read.ok_or(SheetFault::Form(self.line))?;
         self.rest = rest;
+        Ok(said)
+    }
+
+    /// What the next line says, as it was read from what is left, if its values are in their range.
+    pub(crate) fn fitting<T: Drop, F: FnOnce(&T) -> bool>(
+        &mut self,
+        read: Option<(T, &'a [u8])>,
+        fits: F,
+    ) -> Result<T, SheetFault>
+        requires { IfSome read (λ p. FnOnceTakesAt F.FnOnce fits p.0) }
+        ensures counts { self.new.line ≡ next_line self.old.line }
+        ensures read { IfOk result (λ said. (read.entry ≡ Some (said, self.new.rest)) × FnOnceReturnsAt F.FnOnce fits said true) }
+        ensures refused { IfErr result (RefusesLine self.new.line (λ said. FnOnceReturnsAt F.FnOnce fits said false) read.entry) }
+    {
+        let said = self.advance(read)?;
+        if !fits(&said) {
+            return Err(SheetFault::Value(self.line));
+        }
         Ok(said)
     }
 }

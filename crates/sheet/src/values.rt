@@ -2,8 +2,20 @@
 ghost use Rattle.std.specs.Prelude.{◌≡◌, ◌^◌, ◌<◌, ◌≤◌, length, nat_le, nat_lt};
 ghost use Rattle.std.specs.List.{AllByRecursion};
 ghost use Rattle.sheet.specs.Offer.{total as total_of};
+ghost use Rattle.sheet.specs.Read.{flag_of};
 ghost use Rattle.sheet.specs.Sheet.{chain, every};
 ghost use Rattle.text.specs.Form.{between};
+
+/// What a number that is a mark says: one that it is so, zero that it is not.
+pub(crate) fn flag(number: u64) -> Option<bool>
+    ensures { result ≡ flag_of number }
+{
+    match number {
+        0 => Some(false),
+        1 => Some(true),
+        _ => None,
+    }
+}
 
 /// Whether all lie in a range.
 pub(crate) fn all_between(values: &[u64], low: u64, high: u64) -> bool

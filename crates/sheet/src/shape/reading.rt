@@ -11,7 +11,7 @@ use crate::fault::SheetFault;
 use crate::offer::{MOST_RANGES, PerRange, per_range};
 use crate::reader::Reader;
 use crate::shape::Shape;
-use crate::values::{all_between, rising, total};
+use crate::values::{all_between, flag, rising, total};
 use text::{Values, number_line};
 
 /// The most MW of one range, and of all ranges of an offer together.
@@ -26,16 +26,17 @@ pub(crate) fn read_shape(reader: &mut Reader, month: u64) -> Result<Shape, Sheet
     let [ranges, periods, blocks] = counts.as_slice() else {
         return Err(SheetFault::Form(reader.line));
     };
-    if !(1..=MOST_RANGES as u64).contains(ranges) || !(1..=month).contains(periods) || *blocks > 1 {
+    let fits = (1..=MOST_RANGES as u64).contains(ranges) && (1..=month).contains(periods);
+    let (true, Some(block)) = (fits, flag(*blocks)) else {
         return Err(SheetFault::Value(reader.line));
-    }
-    if *blocks == 1 && *periods != month {
+    };
+    if block && *periods != month {
         return Err(SheetFault::PartMonth(reader.line));
     }
     Ok(Shape {
         ranges: *ranges as usize,
         periods: *periods as usize,
-        block: *blocks == 1,
+        block,
     })
 }
 
@@ -58,12 +59,9 @@ pub(crate) fn read_widths(
 ) -> Result<PerRange, SheetFault>
     ensures { ReadsLine numbers_of (width_line shape.ranges floor) reader.old reader.new result }
 {
-    let values = reader.advance(number_line(reader.rest, shape.ranges))?;
-    let widths = values.as_slice();
-    if !widths_fit(widths, floor) {
-        return Err(SheetFault::Value(reader.line));
-    }
-    Ok(per_range(widths))
+    let read = number_line(reader.rest, shape.ranges);
+    let widths = reader.fitting(read, |widths| widths_fit(widths.as_slice(), floor))?;
+    Ok(per_range(widths.as_slice()))
 }
 
 /// The priced periods.
@@ -75,13 +73,10 @@ pub(crate) fn read_periods(
     ensures reads { ReadsLine values_of (period_line month shape.periods) reader.old reader.new result }
     ensures fits { IfOk result (λ p. InMonth month shape.periods (values_of p)) }
 {
-    let values = reader.advance(number_line(reader.rest, shape.periods))?;
-    let periods = values.as_slice();
-    if !all_between(periods, 1, month) {
-        return Err(SheetFault::Value(reader.line));
-    }
-    if !rising(periods) {
+    let read = number_line(reader.rest, shape.periods);
+    let periods = reader.fitting(read, |periods| all_between(periods.as_slice(), 1, month))?;
+    if !rising(periods.as_slice()) {
         return Err(SheetFault::Order(reader.line));
     }
-    Ok(values)
+    Ok(periods)
 }

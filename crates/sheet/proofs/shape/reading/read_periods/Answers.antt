@@ -6,5 +6,5 @@ use Rattle.sheet.proofs.shape.reading.read_periods.Goals as goal
 
 pub returns-clause-fits : goal.returns-clause-fits
 returns-clause-fits c =
-    let says : Ok (values_of c.in_ok-values.values, c.advance.new.self.rest.now) ≡ period_line c.args.month c.args.shape.periods c.advance.new.self.line c.args.reader.now.rest.now = search rules in
-    periods_keep c.args.month c.args.shape.periods c.advance.new.self.line c.args.reader.now.rest.now (values_of c.in_ok-values.values, c.advance.new.self.rest.now) (sym says)
+    let says : Ok (values_of c.in_ok-periods.periods, c.fitting.new.self.rest.now) ≡ period_line c.args.month c.args.shape.periods c.fitting.new.self.line c.args.reader.now.rest.now = search rules in
+    periods_keep c.args.month c.args.shape.periods c.fitting.new.self.line c.args.reader.now.rest.now (values_of c.in_ok-periods.periods, c.fitting.new.self.rest.now) (sym says)
