@@ -81,11 +81,8 @@ impl Register {
     pub fn need(&mut self, period: u64, rapid: u64, complementary: u64) -> Result<(), RegisterFault>
         ensures { Turns self.old (SetNeed period rapid complementary) (answer_of result) self.new }
     {
-        if period < 1
-            || period > self.table.calendar.periods() as u64
-            || rapid > HIGHEST_NEED
-            || complementary > HIGHEST_NEED
-        {
+        let last = self.table.calendar.periods() as u64;
+        if !(1..=last).contains(&period) || rapid > HIGHEST_NEED || complementary > HIGHEST_NEED {
             return Err(RegisterFault::Period(period));
         }
         let need = Need {

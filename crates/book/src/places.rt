@@ -7,7 +7,7 @@ ghost use Rattle.book.specs.Table.{place_of};
 use sheet::Offer;
 
 /// What an offer is known by: the name of its candidate, and the number by which that one knows it.
-#[derive(Clone, Copy)]
+#[derive(Clone, Copy, PartialEq)]
 pub(crate) struct Identifier<'a> {
     pub(crate) name: &'a [u8],
     pub(crate) number: u64,
@@ -29,7 +29,7 @@ impl Identifier<'_> {
     fn is_of(self, offer: &Offer) -> bool
         ensures { result ≡ is self.entry.name.now self.entry.number (facts offer.now) }
     {
-        offer.name() == self.name && u64::from(offer.number()) == self.number
+        Identifier::of(offer) == self
     }
 
     /// The place of its offer, counted from 0.
