@@ -63,7 +63,7 @@ impl<'a> MonthDays<'a> {
         ensures value { result ≡ part (since_monday self.now.first day / 7) (working self.now.first self.now.holidays.now day) }
     {
         let week = (self.first + (day - 1)) / WEEK;
-        let place = if self.is_working(day) { 0 } else { 1 };
+        let place = u32::from(!self.is_working(day));
         (2 * week + place) as usize
     }
 

@@ -19,7 +19,7 @@ impl CostRule for LeftOut {
     ghost within = { λ c k. c ≤ k * 2 ^ 32 };
 
     fn charge(&self, _price_cents: u32, _accepted_mw: u32, left_out_mw: u32) -> u64 {
-        left_out_mw as u64
+        u64::from(left_out_mw)
     }
 
     fn zero(&self) -> u64 {

@@ -19,7 +19,7 @@ impl CostRule for Money {
     ghost within = { λ c k. c ≤ k * 2 ^ 64 };
 
     fn charge(&self, price_cents: u32, accepted_mw: u32, _left_out_mw: u32) -> u128 {
-        price_cents as u128 * accepted_mw as u128
+        u128::from(price_cents) * u128::from(accepted_mw)
     }
 
     fn zero(&self) -> u128 {

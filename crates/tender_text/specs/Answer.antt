@@ -1,7 +1,7 @@
 -- How the library answers a tender's text. Assumes nothing.
 use Rattle.std.specs.Prelude.{◌≡◌, Ok, Err, Result, IsOkAnd}
 use Rattle.book.specs.Register.{days_of, roll_of}
-use Rattle.book.specs.declared.register.Register.{Register as Roll}
+use Rattle.book.specs.declared.register.Register.{Register as KeptRegister}
 use Rattle.book.specs.declared.unread.DepositFault.{DepositFault}
 use Rattle.book.specs.declared.unread.DepositFault.TheVariants.{Memory as NoMemory, Register as ByRegister}
 use Rattle.tender_text.specs.Report.{Tender}
@@ -16,7 +16,7 @@ of_deposit (ByRegister fault) = Refused (Register fault)
 of_deposit NoMemory = Memory
 
 -- a register with the tender's month and its offers, or the tender's refusal, unless there is no memory
-abbrev pub Answered : Result Tender TenderFault → Result Roll AnswerFault → Type 0
+abbrev pub Answered : Result Tender TenderFault → Result KeptRegister AnswerFault → Type 0
 Answered expected (Ok register) = IsOkAnd expected (λ tender. (days_of register ≡ tender.days) × ((roll_of register).offers ≡ tender.offers))
 Answered expected (Err (Refused fault)) = expected ≡ Err fault
 Answered expected (Err Memory) = Unit {0}
