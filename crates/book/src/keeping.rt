@@ -1,5 +1,5 @@
 //! The calls on a register.
-ghost use Rattle.std.specs.Prelude.{◌≡◌, map, length, replicate, IfOk};
+ghost use Rattle.std.specs.Prelude.{◌≡◌, ◌≤◌, map, length, replicate, IfOk};
 ghost use Rattle.calendar.specs.Month.{day_counts};
 ghost use Rattle.sheet.specs.Sheet.{read_alone as read_alone_of};
 ghost use Rattle.sheet.specs.Facts.{facts};
@@ -98,6 +98,7 @@ impl Register {
     pub fn save(&self, name: &[u8], number: u64, buffer: &mut [u8]) -> Result<usize, RegisterFault>
         ensures step { Step (periods_of self.now) (roll_of self.now) (Save name.now number (length buffer.old)) (save_answer_of buffer.new result) (roll_of self.now) }
         ensures buffer { BufferAfter (save_answer_of buffer.new result) buffer.old buffer.new }
+        ensures long { IfOk result (λ long. long ≤ length buffer.old) }
     {
         self.table.save(Identifier { name, number }, buffer)
     }
