@@ -14,8 +14,8 @@ use Rattle.book.specs.declared.fault.RegisterFault.{RegisterFault}
 use Rattle.book.specs.declared.fault.RegisterFault.TheVariants.{Unknown}
 use Rattle.book.proofs.Placed.{stands_placed, others_placed}
 
--- what `ok_or` makes of what is not there
-pub passed_nowhere : {X : Type 0} (found : Option X) (fault : RegisterFault) → Err fault ≡ ok_or found Unknown → (found ≡ None) × (fault ≡ Unknown)
+-- what `ok_or` makes of a place that is not there
+pub passed_nowhere : (found : Option ℕ) (fault : RegisterFault) → Err fault ≡ ok_or found Unknown → (found ≡ None) × (fault ≡ Unknown)
 passed_nowhere None fault e = let same : fault ≡ Unknown = cc in (refl, same)
 passed_nowhere (Some i) fault e = absurd (cc)
 

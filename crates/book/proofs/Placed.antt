@@ -1,5 +1,5 @@
 -- An offer by its place, where each identifier stands once.
-use Rattle.std.proofs.Common.{◌≡◌, ℕ, suc, ◌+◌, ◌-◌, ◌≤◌, Bool, true, false, cond, not, List, [], ◌∷◌, ◌++◌, take, drop, set, is_some, Some, refl, ap, ◌∙◌, subst, arith}
+use Rattle.std.proofs.Common.{◌≡◌, ℕ, suc, ◌+◌, ◌-◌, ◌≤◌, Bool, true, false, cond, not, List, [], ◌∷◌, ◌++◌, get_or, take, drop, set, is_some, Some, None, refl, ap, ◌∙◌, subst, arith}
 use Rattle.sheet.specs.Offer.{Offer}
 use Rattle.book.specs.Limits.{is, count}
 use Rattle.book.specs.Roll.{standing, stands, others, replaced}
@@ -51,6 +51,34 @@ module _ (name : List ℕ) (number : ℕ) where
 
   pub others_placed : (offers : List Offer) (i : ℕ) → place_of name number offers ≡ Some i → count (is name number) offers ≤ 1 → others name number offers ≡ take i offers ++ drop (i + 1) offers
   others_placed offers i found once = let whole : i - 0 ≡ i = omega arith in subst (λ n. others name number offers ≡ take n offers ++ drop (n + 1) offers) whole (others_from 0 i offers found once)
+
+  standing_from : (k j : ℕ) (offers : List Offer) (d : Offer) → place_from k name number offers ≡ Some j → standing name number offers ≡ Some (get_or offers (j - k) d)
+  standing_from k j [] d found = absurd (cc)
+  standing_from k j (o ∷ os) d found = go (is name number o) (standing_from (k + 1) j os d) found
+    where
+      go : (b : Bool) → (place_from (k + 1) name number os ≡ Some j → standing name number os ≡ Some (get_or os (j - (k + 1)) d)) → cond b (Some k) (place_from (k + 1) name number os) ≡ Some j → cond b (Some o) (standing name number os) ≡ Some (get_or (o ∷ os) (j - k) d)
+      go true again here =
+          let same : k ≡ j = cc in
+          let first : j - k ≡ 0 = omega arith in
+          rw first refl
+      go false again later =
+          let past = from_on (k + 1) j os later in
+          let next : j - k ≡ suc (j - (k + 1)) = omega arith in
+          again later ∙ rw next refl
+
+  pub standing_placed : (offers : List Offer) (i : ℕ) (d : Offer) → place_of name number offers ≡ Some i → standing name number offers ≡ Some (get_or offers i d)
+  standing_placed offers i d found = let whole : i - 0 ≡ i = omega arith in subst (λ n. standing name number offers ≡ Some (get_or offers n d)) whole (standing_from 0 i offers d found)
+
+  none_from : (k : ℕ) (offers : List Offer) → place_from k name number offers ≡ None → standing name number offers ≡ None
+  none_from k [] found = refl
+  none_from k (o ∷ os) found = go (is name number o) (none_from (k + 1) os) found
+    where
+      go : (b : Bool) → (place_from (k + 1) name number os ≡ None → standing name number os ≡ None) → cond b (Some k) (place_from (k + 1) name number os) ≡ None → cond b (Some o) (standing name number os) ≡ None
+      go true again here = absurd (cc)
+      go false again later = again later
+
+  pub unplaced : (offers : List Offer) → place_of name number offers ≡ None → standing name number offers ≡ None
+  unplaced offers nowhere = none_from 0 offers nowhere
 
 module _ (new : Offer) where
   none_replaced : (offers : List Offer) → count (is new.name new.number) offers ≤ 0 → replaced new offers ≡ offers

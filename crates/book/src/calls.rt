@@ -113,9 +113,7 @@ impl Table {
         ensures value { result ≡ saved_length (length buffer.old) (standing_in identifier.entry.name.now identifier.entry.number (offers_of self.now)) }
         ensures buffer { buffer.new ≡ saved_buffer buffer.old (standing_in identifier.entry.name.now identifier.entry.number (offers_of self.now)) }
     {
-        let offer = identifier
-            .find_in(self.as_slice())
-            .ok_or(RegisterFault::Unknown)?;
-        Ok(offer.save(buffer)?)
+        let place = self.place(identifier).ok_or(RegisterFault::Unknown)?;
+        Ok(self.as_slice()[place].save(buffer)?)
     }
 }

@@ -1,9 +1,7 @@
 //! Offers by their identifiers.
 ghost use Rattle.std.specs.Prelude.{IfSome, ◌≡◌, ◌<◌, map, length};
-ghost use Rattle.std.specs.Option.{option_map};
 ghost use Rattle.sheet.specs.Facts.{facts};
 ghost use Rattle.book.specs.Limits.{is};
-ghost use Rattle.book.specs.Roll.{standing};
 ghost use Rattle.book.specs.Table.{place_of};
 
 use sheet::Offer;
@@ -40,12 +38,5 @@ impl Identifier<'_> {
         ensures inside { IfSome result (λ i. i < length offers.now) }
     {
         offers.iter().position(|offer| self.is_of(offer))
-    }
-
-    /// Its offer, if it stands.
-    pub(crate) fn find_in<'b>(self, offers: &'b [Offer]) -> Option<&'b Offer>
-        ensures { option_map (λ offer. facts offer.now) result ≡ standing self.entry.name.now self.entry.number (map facts offers.now) }
-    {
-        offers.iter().find(|offer| self.is_of(offer))
     }
 }
