@@ -39,8 +39,48 @@ fn main(rt: HostRuntime) -> io::Result<()> {
 
 #[cfg(test)]
 mod tests {
+    use book::{Book, Deposit};
+    use calendar::Calendar;
     use std::test::Fail;
     use tender_text::report;
+
+    /// Two sheets of one candidate, for the second period of a month.
+    const TWO_SHEETS: &[u8] = b"A;1;
+seuil_minimum;10;
+DMO;13;
+DOmax;120;
+Obs_Stat;0;
+DOmin;0;
+1;1;0;
+10;
+2;
+36,5;
+A;2;
+seuil_minimum;20;
+DMO;30;
+DOmax;90;
+Obs_Stat;1;
+DOmin;0;
+1;1;0;
+20;
+2;
+40;
+";
+
+    #[test]
+    fn a_deposit_opens(rt: HostRuntime) -> Result<(), Fail> {
+        let calendar = Calendar::open(2021, 12, &[])
+            .ok()
+            .ok_or("the month is refused")?;
+        let deposit = Deposit::open(rt.alloc(), calendar, 0, TWO_SHEETS)
+            .ok()
+            .ok_or("the deposit is refused")?;
+        assert_eq!(rt; deposit.offer_count(), 2);
+        assert_eq!(rt; deposit.price(0, 2, 0), Some(3_650));
+        assert_eq!(rt; deposit.price(0, 1, 0), None);
+        assert_eq!(rt; deposit.number(1), Some(2));
+        Ok(())
+    }
 
     #[test]
     fn too_long(rt: HostRuntime) -> Result<(), Fail> {
