@@ -1,7 +1,7 @@
 #!/usr/bin/env python3
 """Counts, in the sources of all crates, the places at which an older form may stand: `tools/places.py [COMMIT] [-v]`.
 
-With no commit it reads the working tree; -v names each place. The points are those of docs/DESIGN-PASS.md.
+With no commit it reads the working tree; -v names each place. The subjects are those of docs/DESIGN-PASS.md.
 """
 import collections
 import re
@@ -100,11 +100,11 @@ def main():
             for place in places:
                 print("    " + place)
 
-    print("1 forms of Option and Result by hand, flags and codes")
+    print("forms of Option and Result by hand, flags and codes")
     show("  an arm or a let that hands a value or a fault on", lines_with(files, r"(Ok|Some)\((\w+)\) => (Ok\(\2\)|Some\(\2\)|\2),|Err\(\w+\) => (return )?Err\(.*|Err\(_\) => None.*|None => (return )?Err\(.*|None => None.*|let Ok\(.*"))
     show("  a result of u8 that says nothing", lines_with(files, r"-> u8$(?=(\n    ensures.*)+\n\{\n(    let _.*\n)?    0\n)"))
     show("  a count that is a flag, a number that is a kind", lines_with(files, r"\bblocks: u64.*|\bmark\(is: bool\).*|fn \w+\(.*\bdecimals: usize.*"))
-    print("2 twins")
+    print("twins")
     shapes = collections.defaultdict(list)
     for path, text in files:
         for name, head, body, line in functions(path, text):
@@ -121,25 +121,25 @@ def main():
         for name, value in re.findall(r"^ *(?:pub(?:\(crate\))? )?const (\w+): \w+ = ([^;]+);", text, re.M):
             consts[name].append(f"{path} {name}")
     show("  constants that stand in two files under one name", [", ".join(p) for p in consts.values() if len(p) > 1])
-    print("3 loops that count by hand")
+    print("loops that count by hand")
     show("  for over a range, while", lines_with(files, r"^ *(for \w+ in [^{]*\.\.[^{]*\{|while [^{]*\{)"))
     show("  a counter beside a loop", lines_with(files, r"^ *\w+ \+= 1;"))
     show("  enumerate", lines_with(files, r"^ *for \(\w+, \w+\) in .*enumerate\(\).*"))
     show("  a loop that adds up, tests all or finds one", lines_with(files, r"^ *for [^{]*\{\n(?:        +(?:\w+ \+= .*;|if .*\{\n *(?:return .*;|\w+ \+= .*;)\n *\})\n)+ *\}"))
-    print("4 equality, order, copying, conversion, printing by hand")
+    print("equality, order, copying, conversion, printing by hand")
     show("  casts", lines_with(files, r".*\bas (u8|u16|u32|u64|u128|usize|char)\b.*"))
     show("  functions that compare, copy or convert", lines_with(files, r"^ *(pub )?(pub\(crate\) )?fn (same_\w+|is_of|mark|better|compare|of|product_text|refusal|at|number_and_place)\b.*"))
-    print("5 facts and parameters that travel")
+    print("facts and parameters that travel")
     for fact, places in sorted(repeated(files, 3).items(), key=lambda f: -len(f[1])):
         print(f"  fact in {len(places)} contracts: {fact}")
         if verbose:
             print("    " + ", ".join(places))
     for pair, places in sorted(together(files, 3).items(), key=lambda f: -len(f[1])):
         print(f"  {pair[0]}: {pair[1]}, {pair[2]} in {len(places)} signatures")
-    print("6 buffers with a length beside")
+    print("buffers with a length beside")
     show("  fields that are arrays", lines_with(files, r"^ *(pub(\(crate\))? )?\w+: \[[^\]\d][^\]]*; \w+\],"))
     show("  slots and a count filled by hand", lines_with(files, r"^ *\w+\[\w+\] = .*"))
-    print("7 switches on a step, tables of functions")
+    print("switches on a step, tables of functions")
     show("  fn pointers, dyn, parameters that are flags", lines_with(files, r".*\bdyn \w.*|.*: fn\(.*|^ *(pub )?(pub\(crate\) )?fn \w+\(.*: bool.*"))
 
 
