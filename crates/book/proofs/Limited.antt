@@ -13,14 +13,14 @@ use Rattle.sheet.specs.declared.product.Product.{Product}
 use Rattle.sheet.specs.declared.product.Product.TheVariants.{Rapid, Complementary}
 use Rattle.sheet.proofs.Kept.{read_keeps, alone_from}
 use Rattle.book.specs.Limits.{most_offers, most_pairs, most_volume, most_blocks, is, count, row, ranges, is_of, breadth, has_block, InMonth, Limits}
-use Rattle.book.specs.Roll.{Roll, new, stands, others, replaced, first_at, crowded, no_pairs, beside, entered, amended, withdrawn, needed}
+use Rattle.book.specs.Roll.{Roll, new, stands, others, replaced, first_at, crowded, no_pairs, beside, with, entered, amended, withdrawn, needed}
 use Rattle.book.specs.Step.{Call, enter, amend, withdraw, need, save, Answer, Step}
 use Rattle.book.specs.Runs.{Runs, LimitsKept}
 use Rattle.book.specs.Within.{all_counted}
 use Rattle.book.specs.declared.fault.RegisterFault.TheVariants.{Volume, Blocks}
 use Rattle.book.proofs.Known.{same_bytes, count_stands}
 use Rattle.book.proofs.Law.{once_pushed, once_replaced}
-use Rattle.book.proofs.Parts.{then_parts, must_parts, Admitted, changed_parts, entered_parts, amended_parts, withdrawn_parts, needed_parts}
+use Rattle.book.proofs.Parts.{then_parts, must_parts, Admitted, with_parts, changed_parts, entered_parts, amended_parts, withdrawn_parts, needed_parts}
 use Rattle.std.proofs.lemmas.List.Sums.{length-filter, count_by-le-length}
 use Rattle.book.proofs.Sums.{sum_push, sum_kept, sum_swapped}
 
@@ -134,6 +134,11 @@ module _ (days : List ℕ) where
       (All-push (Fits (length days)) offers o l.sheets fit)
       (once_pushed offers o l.apart a.new_one)
       (let n = length_push offers o in let r = a.room in omega arith)
+
+  pub limits_with : (offers after : List Offer) (o : Offer) → Limits days offers → Fits (length days) o → with (length days) offers o ≡ Ok after → Limits days after
+  limits_with offers after o l fit h =
+      let w = with_parts (length days) offers o after h in
+      subst (Limits days) (sym w.1) (limits_pushed offers o l fit w.0)
 
   pub limits_replaced : (offers : List Offer) (o : Offer) → Limits days offers → Fits (length days) o → stands o.name o.number offers ≡ true →
       beside (length days) (others o.name o.number offers) o ≡ Ok tt → Limits days (replaced o offers)

@@ -3,4 +3,5 @@ mod Dates
 mod ByWeek
 mod Sound
 mod Packs
+mod Openings
 mod Examples

@@ -1,7 +1,28 @@
 -- Periods that have days, packed one after another.
-use Rattle.std.proofs.Common.{◌≡◌, ℕ, zero, suc, ◌+◌, ◌<◌, ◌≤◌, ltb, List, [], ◌∷◌, ◌++◌, length, get_or, take, filter, refl, ap, append-nil}
+use Rattle.std.proofs.Common.{◌≡◌, ℕ, zero, suc, ◌+◌, ◌<◌, ◌≤◌, true, ◌&&◌, ltb, leb, List, [], ◌∷◌, ◌++◌, length, get_or, take, sum, filter, refl, ap, append-nil}
 use Rattle.std.proofs.lemmas.List.Elements.{filter_more}
-use Rattle.std.proofs.lemmas.Bool.{lt-ltb, le-ltb}
+use Rattle.std.proofs.lemmas.Bool.{leb-true, lt-ltb, le-ltb, and_parts}
+use Rattle.calendar.specs.Kept.{sound, week_long}
+
+-- ---- what the test says
+
+module _ (counts : List ℕ) (passes : sound counts ≡ true) where
+  first_three : (leb 1 (length counts) && leb (length counts) 11 && leb (sum counts) 31) ≡ true
+  first_three = (and_parts (leb 1 (length counts) && leb (length counts) 11 && leb (sum counts) 31) (week_long counts) passes).0
+
+  first_two : (leb 1 (length counts) && leb (length counts) 11) ≡ true
+  first_two = (and_parts (leb 1 (length counts) && leb (length counts) 11) (leb (sum counts) 31) first_three).0
+
+  pub some_periods : 1 ≤ length counts
+  some_periods = leb-true 1 (length counts) (and_parts (leb 1 (length counts)) (leb (length counts) 11) first_two).0
+
+  pub few_periods : length counts ≤ 11
+  few_periods = leb-true (length counts) 11 (and_parts (leb 1 (length counts)) (leb (length counts) 11) first_two).1
+
+  pub month_most : sum counts ≤ 31
+  month_most = leb-true (sum counts) 31 (and_parts (leb 1 (length counts) && leb (length counts) 11) (leb (sum counts) 31) first_three).1
+
+-- ---- a turn
 
 take_front : (n : ℕ) (xs ys : List ℕ) → take n (take n xs ++ ys) ≡ take n (xs ++ ys)
 take_front zero xs ys = refl

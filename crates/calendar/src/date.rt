@@ -1,5 +1,6 @@
 ghost use Rattle.std.specs.Prelude.{◌≡◌, ◌-◌, ◌<◌, ◌≤◌, take, sum};
 ghost use Rattle.calendar.specs.Date.{leap, year_length, month_lengths, month_length, days_before_year, first_weekday};
+ghost use Rattle.calendar.specs.Opening.{rising};
 ghost use Rattle.calendar.specs.declared.date.TheConstants.{FIRST_YEAR, LAST_YEAR, MONTHS};
 
 /// The first year for which a tender is opened. All days are counted from its first day.
@@ -55,6 +56,14 @@ impl Month {
         ensures bound { result ≤ 31 }
     {
         month_lengths(self.year)[self.month as usize - 1]
+    }
+
+    /// Whether these are days of the month, each later than the one before.
+    pub(crate) fn has_rising(self, days: &[u64]) -> bool
+        ensures { result ≡ rising 0 (month_length self.year self.month) days.now }
+    {
+        let last = u64::from(self.length());
+        days.is_sorted_by(|a, b| a < b) && days.iter().all(|day| (1..=last).contains(day))
     }
 
     /// The weekday of the first of the month: Monday is 0.

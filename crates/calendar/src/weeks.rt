@@ -1,6 +1,5 @@
 ghost use Rattle.std.specs.Prelude.{◌≡◌, ◌/◌, ◌<◌, ◌≤◌};
 ghost use Rattle.calendar.specs.Date.{month_length, first_weekday};
-ghost use Rattle.calendar.specs.Opening.{rising};
 ghost use Rattle.calendar.specs.Periods.{since_monday, working, part, by_week};
 
 use crate::date::{Month, WEEK};
@@ -33,15 +32,6 @@ impl<'a> MonthDays<'a> {
             days: month.length(),
             holidays,
         }
-    }
-
-    /// Whether the holidays are rising days of the month.
-    pub(crate) fn is_rising(&self) -> bool
-        ensures { result ≡ rising 0 self.now.days self.now.holidays.now }
-    {
-        let last = u64::from(self.days);
-        self.holidays.is_sorted_by(|a, b| a < b)
-            && self.holidays.iter().all(|day| (1..=last).contains(day))
     }
 
     /// The working days and the other days of each week, in turn.

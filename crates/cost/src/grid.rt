@@ -82,7 +82,7 @@ impl<'a, C: Copy> Grid<'a, C> {
     pub fn cells(&self) -> &[C]
         ensures { result.now ≡ (table self.now).cells }
     {
-        self.cells
+        &*self.cells
     }
 
     /// The caller's slice itself, to hand on in the place of the grid.
@@ -90,7 +90,8 @@ impl<'a, C: Copy> Grid<'a, C> {
         ensures value { result.now ≡ (table self.entry).cells }
         ensures slice { result.ghost_name ≡ self.entry.cells.ghost_name }
     {
-        self.cells
+        let cells = self.cells;
+        cells
     }
 
     /// Where a row begins; none outside of the rows.

@@ -7,6 +7,7 @@ pub mod Judged
 pub mod Kept
 pub mod Keyword
 pub mod LinesBack
+pub mod Near
 pub mod Periods
 pub mod Placed
 pub mod Rows

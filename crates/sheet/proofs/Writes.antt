@@ -18,13 +18,23 @@ byte_slice : (w : Progress) (length : Option ℕ) (byte : ℕ) → (with_byte_at
 byte_slice w None byte = refl
 byte_slice w (Some place) byte = refl
 
-text_slice : (w : Progress) (text : List ℕ) → (with_text w text).slice ≡ w.slice
+byte_long : (w : Progress) (place : Option ℕ) (byte : ℕ) → length (with_byte_at w place byte).buffer ≡ length w.buffer
+byte_long w None byte = refl
+byte_long w (Some place) byte = length-set w.buffer place byte
+
+-- no write makes the buffer longer or shorter
+pub with_length : (w : Progress) (text : List ℕ) → length (with_text w text).buffer ≡ length w.buffer
+unfolding with_byte
+with_length w [] = refl
+with_length w (byte ∷ text) = with_length (with_byte w byte) text ∙ byte_long w w.length byte
+
+pub text_slice : (w : Progress) (text : List ℕ) → (with_text w text).slice ≡ w.slice
 unfolding with_byte
 text_slice w [] = refl
 text_slice w (byte ∷ text) = text_slice (with_byte w byte) text ∙ byte_slice w w.length byte
 
 -- lines one after another are one text
-lines_text : (w : Progress) (lines : List (List ℕ)) → with_lines w lines ≡ with_text w (concat lines)
+pub lines_text : (w : Progress) (lines : List (List ℕ)) → with_lines w lines ≡ with_text w (concat lines)
 lines_text w [] = refl
 lines_text w (line ∷ lines) = lines_text (with_text w line) lines ∙ sym (fold-append with_byte w line (concat lines))
 
@@ -41,7 +51,7 @@ module _ (slice : GName) where
   text_none buffer [] = refl
   text_none buffer (byte ∷ text) = text_none buffer text
 
-  text_length : (buffer text : List ℕ) (n : ℕ) → n < 2 ^ 64 → (with_text (at buffer (Some n)) text).length ≡ counted (n + length text)
+  pub text_length : (buffer text : List ℕ) (n : ℕ) → n < 2 ^ 64 → (with_text (at buffer (Some n)) text).length ≡ counted (n + length text)
   unfolding with_byte
   text_length buffer [] n small = sym (is_counted (n + 0) (omega arith) ∙ ap Some (add-zero n))
   text_length buffer (byte ∷ text) n small =
@@ -52,7 +62,7 @@ module _ (slice : GName) where
       (cases_lt (n + 1) (2 ^ 64))
 
   -- where the text fits, it stands there whole, and all else is as it was
-  text_buffer : (buffer text : List ℕ) (n : ℕ) → n + length text < 2 ^ 64 → n + length text ≤ length buffer → (with_text (at buffer (Some n)) text).buffer ≡ take n buffer ++ (text ++ drop (n + length text) buffer)
+  pub text_buffer : (buffer text : List ℕ) (n : ℕ) → n + length text < 2 ^ 64 → n + length text ≤ length buffer → (with_text (at buffer (Some n)) text).buffer ≡ take n buffer ++ (text ++ drop (n + length text) buffer)
   unfolding with_byte
   text_buffer buffer [] n small fits = sym (ap (λ k. take n buffer ++ drop k buffer) (add-zero n) ∙ take-append-drop n buffer)
   text_buffer buffer (byte ∷ text) n small fits =

@@ -7,3 +7,4 @@ pub mod Facts
 pub mod Writing
 pub mod Read
 pub mod Product
+pub mod Short

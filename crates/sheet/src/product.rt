@@ -56,6 +56,16 @@ impl Product {
             Product::Complementary => COMPLEMENTARY_DOMAX,
         }
     }
+
+    /// Its short name.
+    pub fn text(self) -> &'static str
+        ensures { result.now ≡ product_text self }
+    {
+        match self {
+            Product::Rapid => "RR",
+            Product::Complementary => "RC",
+        }
+    }
 }
 
 /// A product is printed by its short name.
@@ -63,9 +73,6 @@ impl fmt::Display for Product {
     ghost output = { λ product. Some (product_text product) };
 
     fn fmt<W: fmt::Write>(&self, f: &mut fmt::Formatter<W>) -> fmt::Result {
-        f.write_str(match self {
-            Product::Rapid => "RR",
-            Product::Complementary => "RC",
-        })
+        f.write_str(self.text())
     }
 }

@@ -2,7 +2,7 @@
 ghost use Rattle.std.specs.Prelude.{◌≡◌, ◌≤◌, map, length};
 ghost use Rattle.sheet.specs.Facts.{facts, numbers_of, row_facts};
 ghost use Rattle.sheet.specs.Limits.{longest_name, most_periods};
-ghost use Rattle.sheet.specs.Read.{alone_read, by_month, head_says, line_read, month_of, read_by_month, says_to};
+ghost use Rattle.sheet.specs.Read.{alone_read, by_month, head_says, line_read, month_of, read_by_month};
 ghost use Rattle.sheet.specs.Sheet.{read, read_alone};
 ghost use Rattle.short_list.specs.ShortList.{items};
 
@@ -33,10 +33,10 @@ fn offer_of(head: Head, widths: PerRange, rows: Rows, block: Option<u32>) -> Off
 }
 
 /// The lines of a sheet, each judged before the next is read.
-fn read_lines(reader: &mut Reader, periods: usize) -> Result<Offer, SheetFault>
+fn read_lines<'a>(reader: &mut Reader<'a>, periods: usize) -> Result<(Offer, &'a [u8]), SheetFault>
     requires few { periods ≤ most_periods }
     requires near { reader.old.line ≤ 65535 }
-    ensures { says_to facts reader.new.rest.now result ≡ read_by_month periods reader.old.line reader.old.rest.now }
+    ensures { line_read facts result ≡ read_by_month periods reader.old.line reader.old.rest.now }
 {
     let month = periods as u64;
     let head = read_head(reader)?;
@@ -45,7 +45,7 @@ fn read_lines(reader: &mut Reader, periods: usize) -> Result<Offer, SheetFault>
     let priced = read_periods(reader, shape, month)?;
     let rows = read_rows(reader, shape, periods, priced.as_slice())?;
     let block = read_block(reader, shape.block)?;
-    Ok(offer_of(head, widths, rows, block))
+    Ok((offer_of(head, widths, rows, block), reader.rest))
 }
 
 /// Reads the sheet at the front of a text, in a month of so many periods and with so many lines before it, and tells what
@@ -63,8 +63,7 @@ pub fn read_sheet<'a>(
         line: u32::from(lines_before),
         rest: text,
     };
-    let offer = read_lines(&mut reader, periods.min(MOST_PERIODS))?;
-    Ok((offer, reader.rest))
+    read_lines(&mut reader, periods.min(MOST_PERIODS))
 }
 
 /// Reads a text that is one sheet and nothing else.

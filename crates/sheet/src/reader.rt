@@ -23,10 +23,7 @@ impl<'a> Reader<'a> {
         ensures read { IfOk result (λ said. read.entry ≡ Some (said, self.new.rest)) }
         ensures broken { IfErr result (λ fault. (fault ≡ Form self.new.line) × (read.entry ≡ None)) }
     {
-        self.line = self.line.saturating_add(1);
-        let (said, rest) = read.ok_or(SheetFault::Form(self.line))?;
-        self.rest = rest;
-        Ok(said)
+        self.fitting(read, |_| true)
     }
 
     /// What the next line says, as it was read from what is left, if its values are in their range.
@@ -40,7 +37,11 @@ impl<'a> Reader<'a> {
         ensures read { IfOk result (λ said. (read.entry ≡ Some (said, self.new.rest)) × FnOnceReturnsAt F.FnOnce fits said true) }
         ensures refused { IfErr result (RefusesLine self.new.line (λ said. FnOnceReturnsAt F.FnOnce fits said false) read.entry) }
     {
-        let said = self.advance(read)?;
+        self.line = self.line.saturating_add(1);
+        let Some((said, rest)) = read else {
+            return Err(SheetFault::Form(self.line));
+        };
+        self.rest = rest;
         if !fits(&said) {
             return Err(SheetFault::Value(self.line));
         }

@@ -11,10 +11,14 @@ use crate::fault::SaveFault;
 use crate::offer::Offer;
 use crate::writing::{Price, Whole, Writer};
 
+/// No saved sheet has more bytes.
+const LONGEST_SHEET: usize = 1_061;
+
 impl Offer {
     /// Puts the first six lines.
     fn put_head(&self, sheet: &mut Writer<'_>)
-        ensures { so_far sheet.new ≡ with_lines (so_far sheet.old) (take 6 (saved_lines (facts self.now))) }
+        ensures puts { so_far sheet.new ≡ with_lines (so_far sheet.old) (take 6 (saved_lines (facts self.now))) }
+        ensures short { length (concat (take 6 (saved_lines (facts self.now)))) ≤ 128 }
     {
         sheet.named_line(self.name.as_slice(), self.number);
         sheet.named_line(b"seuil_minimum", self.floor);
@@ -26,7 +30,8 @@ impl Offer {
 
     /// Puts the line that says how many ranges, periods and blocks there are.
     fn put_shape(&self, sheet: &mut Writer<'_>)
-        ensures { so_far sheet.new ≡ with_text (so_far sheet.old) (shape_text (facts self.now)) }
+        ensures puts { so_far sheet.new ≡ with_text (so_far sheet.old) (shape_text (facts self.now)) }
+        ensures short { length (shape_text (facts self.now)) ≤ 43 }
     {
         sheet.line::<Whole>(&[
             self.widths.len() as u32,
@@ -37,7 +42,8 @@ impl Offer {
 
     /// Puts the line of the priced periods.
     fn put_periods(&self, sheet: &mut Writer<'_>)
-        ensures { so_far sheet.new ≡ with_text (so_far sheet.old) (line_text (map (λ p. decimal p.0) (priced 1 (facts self.now).rows))) }
+        ensures puts { so_far sheet.new ≡ with_text (so_far sheet.old) (line_text (map (λ p. decimal p.0) (priced 1 (facts self.now).rows))) }
+        ensures short { length (line_text (map (λ p. decimal p.0) (priced 1 (facts self.now).rows))) ≤ 155 }
     {
         for (period, row) in (1_u32..).zip(self.rows.as_slice()) {
             if row.is_some() {
@@ -49,7 +55,8 @@ impl Offer {
 
     /// Puts a line of prices for each priced period.
     fn put_rows(&self, sheet: &mut Writer<'_>)
-        ensures { so_far sheet.new ≡ with_text (so_far sheet.old) (concat (map (λ p. line_text (map price_text p.1)) (priced 1 (facts self.now).rows))) }
+        ensures puts { so_far sheet.new ≡ with_text (so_far sheet.old) (concat (map (λ p. line_text (map price_text p.1)) (priced 1 (facts self.now).rows))) }
+        ensures short { length (concat (map (λ p. line_text (map price_text p.1)) (priced 1 (facts self.now).rows))) ≤ 627 }
     {
         for row in self.rows.as_slice() {
             if let Some(prices) = row {
@@ -60,7 +67,8 @@ impl Offer {
 
     /// Puts the block's line, if there is a block.
     fn put_block(&self, sheet: &mut Writer<'_>)
-        ensures { so_far sheet.new ≡ with_text (so_far sheet.old) (block_text self.now.block) }
+        ensures puts { so_far sheet.new ≡ with_text (so_far sheet.old) (block_text self.now.block) }
+        ensures short { length (block_text self.now.block) ≤ 15 }
     {
         if let Some(cents) = self.block {
             sheet.line::<Price>(&[cents]);
@@ -71,6 +79,7 @@ impl Offer {
     fn put_lines(&self, sheet: &mut Writer<'_>)
         ensures lines { so_far sheet.new ≡ with_lines (so_far sheet.old) (saved_lines (facts self.now)) }
         ensures slice { sheet.new.buffer.ghost_name ≡ sheet.old.buffer.ghost_name }
+        ensures short { length (written (facts self.now)) ≤ 1061 }
     {
         self.put_head(sheet);
         self.put_shape(sheet);
@@ -82,6 +91,7 @@ impl Offer {
 
     /// Puts the whole sheet into a buffer, as far as it fits, and tells its length, if that can be counted.
     fn put(&self, buffer: &mut [u8]) -> Option<usize>
+        ensures short { length (written (facts self.now)) ≤ 1061 }
         ensures length { result ≡ counted (length (written (facts self.now))) }
         ensures buffer { length (written (facts self.now)) < 2 ^ 64 → length (written (facts self.now)) ≤ length buffer.old → buffer.new ≡ written (facts self.now) ++ drop (length (written (facts self.now))) buffer.old }
     {
@@ -97,11 +107,11 @@ impl Offer {
         ensures buffer { buffer.new ≡ buffer_after (written (facts self.now)) buffer.old }
     {
         let room = buffer.len();
-        let length = self
-            .put(&mut [])
-            .filter(|length| *length <= room)
-            .ok_or(SaveFault::Space)?;
-        self.put(buffer);
-        Ok(length)
+        if room < LONGEST_SHEET {
+            self.put(&mut [])
+                .filter(|length| *length <= room)
+                .ok_or(SaveFault::Space)?;
+        }
+        self.put(buffer).ok_or(SaveFault::Space)
     }
 }

@@ -1,5 +1,6 @@
 //! Text written into a lent buffer, part by part.
-ghost use Rattle.std.specs.Prelude.{◌≡◌, ℕ, [], ◌∷◌, ◌++◌, List, map, decimal};
+ghost use Rattle.std.specs.Prelude.{◌≡◌, ℕ, ◌+◌, ◌*◌, ◌^◌, ◌<◌, ◌≤◌, [], ◌∷◌, ◌++◌, List, map, length, decimal};
+ghost use Rattle.sheet.specs.Short.{decimal_short, price_short};
 ghost use Rattle.sheet.specs.Writing.{with_text, fresh, so_far};
 ghost use Rattle.text.specs.Written.{line_text, price_text};
 
@@ -64,7 +65,8 @@ impl<'a> Writer<'a> {
 
     /// Puts a line of a word and a number.
     pub(crate) fn named_line(&mut self, word: &[u8], number: u32)
-        ensures { so_far self.new ≡ with_text (so_far self.old) (line_text (word.now ∷ decimal number ∷ [])) }
+        ensures puts { so_far self.new ≡ with_text (so_far self.old) (line_text (word.now ∷ decimal number ∷ [])) }
+        ensures short { length (line_text (word.now ∷ decimal number ∷ [])) ≤ length word.now + 13 }
     {
         self.bytes(word);
         self.byte(b';');
@@ -74,7 +76,8 @@ impl<'a> Writer<'a> {
 
     /// Puts a line of numbers.
     pub(crate) fn line<F: Form>(&mut self, numbers: &[u32])
-        ensures { so_far self.new ≡ with_text (so_far self.old) (line_text (map F.text numbers.now)) }
+        ensures puts { so_far self.new ≡ with_text (so_far self.old) (line_text (map F.text numbers.now)) }
+        ensures short { length (line_text (map F.text numbers.now)) ≤ length numbers.now * 14 + 1 }
     {
         for number in numbers {
             self.field::<F>(*number);
@@ -89,6 +92,9 @@ pub(crate) trait Form {
 
     fn put(writer: &mut Writer<'_>, number: u32)
         ensures { so_far writer.new ≡ with_text (so_far writer.old) (Self.text number) };
+
+    /// No number has a long text.
+    ghost short: { (n : ℕ) → n < 2 ^ 32 → length (text n) ≤ 13 };
 }
 
 /// By its digits.
@@ -96,6 +102,8 @@ pub(crate) struct Whole;
 
 impl Form for Whole {
     ghost text = { decimal };
+
+    ghost short = { decimal_short };
 
     fn put(writer: &mut Writer<'_>, number: u32) {
         writer.bytes(Buffer::new().format(number).as_bytes());
@@ -107,6 +115,8 @@ pub(crate) struct Price;
 
 impl Form for Price {
     ghost text = { price_text };
+
+    ghost short = { price_short };
 
     fn put(writer: &mut Writer<'_>, cents: u32) {
         Whole::put(writer, cents / 100);

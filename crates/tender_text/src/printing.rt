@@ -24,7 +24,7 @@ fn add_offer(heap: Global, table: &mut Vec<u8>, offer: &Offer) -> Result<(), All
     ensures { OnOk result (table.new.items ≡ table.old.items ++ offer_line (facts offer.now)) }
 {
     let number = offer.number();
-    let product = offer.product();
+    let product = offer.product().text();
     let width = offer.width();
     let after_name = format!(in heap; ";{number};{product};{width};\n")?;
     table.extend_from_slice(offer.name())?;

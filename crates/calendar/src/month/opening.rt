@@ -63,10 +63,10 @@ impl Calendar {
         if !is_announced(year, month, holidays.len() as u64) {
             return Err(CalendarFault::Date);
         }
-        let month = MonthDays::new(Month { year, month }, holidays);
-        if !month.is_rising() {
+        let month = Month { year, month };
+        if !month.has_rising(holidays) {
             return Err(CalendarFault::Date);
         }
-        Ok(of_month(&month))
+        Ok(of_month(&MonthDays::new(month, holidays)))
     }
 }
